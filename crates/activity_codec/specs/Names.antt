@@ -7,10 +7,12 @@ use Rattle.activity_codec.specs.declared.values.Slot.{Slot}
 use Rattle.activity_codec.specs.declared.values.Slot.TheVariants.{Driver, CoDriver}
 use Rattle.activity_codec.specs.Activity.{activity_of}
 
+-- the name of a slot
 abbrev pub slot_name : Slot → List ℕ
 slot_name Driver = codes "driver"
 slot_name CoDriver = codes "codriver"
 
+-- the name of an activity
 abbrev pub activity_name : Activity → List ℕ
 activity_name Rest = codes "rest"
 activity_name Available = codes "available"

@@ -62,6 +62,7 @@ IsFirstKeeping s by_hand e odometer x c = IsEntering by_hand s x c ⊎ IsKeeping
 abbrev pub HasEntered : List Manual → (s next : Session) → (x y : List ℕ) → Type 0
 HasEntered es s next x y = IsSession s x → AreEntered es s next x y × IsSession next y
 
+-- a moment at which they are entered, on a card that the session knows
 abbrev pub MayBeEntering : List Manual → Session → (x c : List ℕ) → Type 0
 MayBeEntering es s x c = IsSession s x → IsEntering es s x c
 

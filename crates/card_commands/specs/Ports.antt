@@ -28,6 +28,7 @@ port_state app s = record s {
   layers = Commands app s.size s.writable ∷ s.layers;
 }
 
+-- a coherent card is a coherent medium through its commands too
 pub port_coherent : (app : Application) (s : State) → IsCoherent s → IsCoherent (port_state app s)
 port_coherent app s whole = record {
   sized = λ x is. omega (arith, whole.sized x is);
@@ -47,6 +48,7 @@ file_from base (f ∷ fs) place =
     then Some (record { fid = f.fid; range = record { base = base; len = f.size }; updated = f.updated })
     else file_from (base + f.size) fs place
 
+-- the file of a card of these sizes in which a place lies
 unfoldable pub file_at : Application → ℕ → Option ElementaryFile
 file_at app place = file_from 0 (files_of app) place
 

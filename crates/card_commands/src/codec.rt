@@ -1,3 +1,4 @@
+//! Commands in bytes, read and written (Annex IB, Appendix 2, section 3.6).
 ghost use Rattle.std.specs.Prelude.{◌^◌, ◌≡◌, ◌<◌, ◌≤◌, ◌+◌, ◌++◌, Ok, IfOk, length, drop};
 ghost use Rattle.card_commands.specs.declared.port.TheConstants.{WRITE_MOST};
 ghost use Rattle.card_layout.specs.Images.{number_at};
@@ -33,9 +34,12 @@ pub enum Header {
     Update { offset: u16 },
 }
 
-/// Reads the bytes of a command: class, instruction, P1, P2, then a length and data. An `Err` is the status word of the
-/// first check that the bytes fail: 6700 where there are fewer than five, 6E00 for the class, 6D00 for the instruction,
-/// 6A86 for P1 and P2, 6700 for the length, 6A82 for the name of another application.
+/// Reads the bytes of a command: class, instruction, P1, P2, then a length and data.
+///
+/// # Errors
+///
+/// The status word of the first check that the bytes fail: 6700 where there are fewer than five, 6E00 for the class,
+/// 6D00 for the instruction, 6A86 for P1 and P2, 6700 for the length, 6A82 for the name of another application.
 pub fn read_command(b: &[u8]) -> Result<Command, u16>
     ensures value { result ≡ command_of b.now }
     ensures writable { IfOk result IsWritable }
@@ -47,6 +51,10 @@ pub fn read_command(b: &[u8]) -> Result<Command, u16>
 }
 
 /// The same without the data of an update.
+///
+/// # Errors
+///
+/// The same.
 pub fn read_header(b: &[u8]) -> Result<Header, u16>
     ensures value { read_with result (drop 5 b.now) ≡ command_of b.now }
     ensures writable { IfOk result (λ header. IsWritable (command_with header (drop 5 b.now))) }
@@ -83,7 +91,7 @@ pub fn behind_header(b: &[u8]) -> &[u8]
     &b[5..]
 }
 
-// A command with its data.
+/// A command with its data.
 fn with_data(header: Header, behind: &[u8]) -> Command
     requires { length behind.now ≤ WRITE_MOST }
     ensures { result ≡ command_with header behind.now }
@@ -99,7 +107,7 @@ fn with_data(header: Header, behind: &[u8]) -> Command
     }
 }
 
-// Whether P1 and P2 are those of the instruction.
+/// Whether P1 and P2 are those of the instruction.
 fn has_good_parameters(b: &[u8]) -> bool
     requires { 5 ≤ length b.now }
     ensures { result ≡ has_good_parameters b.now }
@@ -111,7 +119,7 @@ fn has_good_parameters(b: &[u8]) -> bool
     }
 }
 
-// Whether the length and the number of data bytes are those of the instruction.
+/// Whether the length and the number of data bytes are those of the instruction.
 fn has_good_length(b: &[u8]) -> bool
     requires { 5 ≤ length b.now }
     ensures { result ≡ has_good_length b.now }
@@ -124,33 +132,33 @@ fn has_good_length(b: &[u8]) -> bool
     }
 }
 
-// The command that these bytes are, which have passed the checks.
+/// The command that these bytes are, which have passed the checks.
 fn meaning(b: &[u8]) -> Header
     requires { command_of b.now ≡ Ok (meaning b.now) }
     ensures { command_with result (drop 5 b.now) ≡ meaning b.now }
 {
     match b[1] {
         SELECT if b[2] == BY_NAME => Header::Application,
-        SELECT => Header::Select(Fid(two_bytes(b, 5))),
+        SELECT => Header::Select(Fid(two_in(b, 5))),
         READ_BINARY => Header::Read {
-            offset: two_bytes(b, 2),
+            offset: two_in(b, 2),
             len: if b[4] == 0 { 256 } else { b[4] as u16 },
         },
         _ => Header::Update {
-            offset: two_bytes(b, 2),
+            offset: two_in(b, 2),
         },
     }
 }
 
-// The number in two bytes, the highest first.
-fn two_bytes(b: &[u8], place: usize) -> u16
+/// The number in two bytes, the highest first.
+fn two_in(b: &[u8], place: usize) -> u16
     requires { place + 2 ≤ length b.now }
     ensures { result ≡ number_at b.now place 2 }
 {
     u16::from_be_bytes([b[place], b[place + 1]])
 }
 
-// These bytes, for which there is room.
+/// These bytes, for which there is room.
 fn held<const ROOM: usize>(bytes: &[u8]) -> ArrayVec<u8, ROOM>
     requires { length bytes.now ≤ ROOM }
     ensures { result.items ≡ bytes.now }
@@ -195,7 +203,7 @@ pub fn write_update(offset: u16, bytes: &[u8]) -> ArrayVec<u8, 260>
     written([0x00, UPDATE_BINARY, high, low, bytes.len() as u8], bytes)
 }
 
-// A header with data behind it.
+/// A header with data behind it.
 fn written(header: [u8; 5], bytes: &[u8]) -> ArrayVec<u8, 260>
     requires { length bytes.now ≤ WRITE_MOST }
     ensures { result.items ≡ header ++ bytes.now }

@@ -1,3 +1,4 @@
+//! The files that a command finds.
 ghost use Rattle.std.specs.Prelude.{◌≡◌, ◌≤◌, ◌||◌, ◌&&◌, ◌==◌, nat_le, is_some, false, None, IfSome};
 ghost use Rattle.card_layout.specs.Application.{application_of};
 ghost use Rattle.card_layout.specs.Files.{is_updated};
@@ -54,7 +55,7 @@ pub fn sized_file(application: &[u8; 10], fid: Fid) -> Option<ElementaryFile>
     })
 }
 
-// Whether the unit updates a file.
+/// Whether the unit updates a file.
 fn is_updated(fid: Fid) -> bool
     ensures { result ≡ (nat_le 0x0502 fid.0 && nat_le fid.0 0x0507) }
 {

@@ -1,3 +1,4 @@
+//! A card is issued: its image is written anew.
 ghost use Rattle.std.specs.Prelude.{◌≡◌, ◌≤◌, ◌<◌, ◌+◌, ◌/◌, length, option_map, OnOk, is_err};
 ghost use Rattle.tach_media.specs.Medium.{LiesInside, LeavesOnly, IsSettled, HasCause, Rose, put, last_count};
 ghost use Rattle.card_layout.specs.Issue.{IsIssued};
@@ -10,6 +11,10 @@ const CARD_TYPE: u32 = APPLICATION_RANGE.base;
 
 /// Writes a new image over the first bytes of a medium. The card type is 0 from the first write to the last, so that
 /// what a stop leaves in between is no card.
+///
+/// # Errors
+///
+/// `Failed` where a call on the medium failed.
 pub fn issue<M: Medium>(medium: &mut M, image: &[u8]) -> Result<(), Failed>
     requires least { 34 ≤ length image.now }
     requires most { length image.now ≤ (M.state medium.old).size }

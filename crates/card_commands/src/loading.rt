@@ -1,3 +1,4 @@
+//! The sizes of a card's files, read by its commands.
 ghost use Rattle.std.specs.Prelude.{◌≡◌, ◌≤◌, Some, IfOk, IfSome, IsErrOf};
 ghost use Rattle.card_layout.specs.Application.{application_in};
 ghost use Rattle.tach_media.specs.Medium.{Reads};
@@ -45,6 +46,12 @@ pub const APPLICATION: ElementaryFile = ElementaryFile {
 };
 
 /// Reads the sizes of a card's files. The chip has Application_Identification selected then.
+///
+/// # Errors
+///
+/// 1. `Failed` where a call on the chip failed.
+/// 2. `BadApplication` exactly where a field of Application_Identification is out of its range, with the number of the
+///    first such field.
 pub fn read_sizes<C: Chip>(chip: &mut C) -> Result<Application, PortFault>
     requires { LARGEST_IMAGE ≤ (C.state chip.old).size }
     ensures loaded { IfOk result (λ app. IsPort app (Some application_file) (C.card chip.new) (C.state chip.new)) }

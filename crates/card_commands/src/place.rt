@@ -1,3 +1,4 @@
+//! The file in which a place of the flat image lies.
 ghost use Rattle.std.specs.Prelude.{◌≡◌, ◌+◌, ◌<◌, ◌≤◌, ◌^◌, Some};
 ghost use Rattle.card_layout.specs.Files.{image_size_of, total_size};
 ghost use Rattle.card_commands.specs.Ports.{file_at, file_from};
@@ -16,7 +17,7 @@ pub fn file_at(app: &Application, place: u32) -> ElementaryFile
     file_in(&files(app), place).unwrap()
 }
 
-// The same among files that stand one after the other.
+/// The same among files that stand one after the other.
 fn file_in(files: &[CardFile], place: u32) -> Option<ElementaryFile>
     requires { total_size files.now < 2 ^ 32 }
     ensures { result ≡ file_from 0 files.now place }

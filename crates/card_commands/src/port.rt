@@ -1,3 +1,4 @@
+//! A card as a medium, reached by its commands.
 ghost use Rattle.std.specs.Prelude.{◌≡◌, ◌≤◌, ◌<◌, ◌+◌, ◌^◌, true, false, length, take, Some, None, Ok, Err, OnOk};
 ghost use Rattle.std.specs.Prelude.{IfOk, IfErr, IfSome, is_err};
 ghost use Rattle.card_commands.specs.declared.port.TheConstants.{READ_MOST, WRITE_MOST};
@@ -65,7 +66,7 @@ impl<C: Chip> Port<C> {
         self.application
     }
 
-    // Sends a command that changes nothing on the card.
+    /// Sends a command that changes nothing on the card.
     fn reach(&mut self) -> Result<(), Failed>
         ensures reads { Reads (C.state self.old.chip) (C.state self.new.chip) (is_err result) }
         ensures application { self.new.application ≡ self.old.application }
@@ -74,7 +75,7 @@ impl<C: Chip> Port<C> {
         enter(&mut self.chip, Directory::Tachograph)
     }
 
-    // Selects a file, unless the chip still has it selected.
+    /// Selects a file, unless the chip still has it selected.
     fn select(&mut self, file: ElementaryFile) -> Result<(), Failed>
         requires { file_of (C.card self.old.chip).application file.fid ≡ Some file }
         ensures selected { OnOk result (self.new.selected ≡ Some file) }
@@ -91,7 +92,7 @@ impl<C: Chip> Port<C> {
         Ok(())
     }
 
-    // Reads from the selected file. A failure makes the port forget that it is selected.
+    /// Reads from the selected file. A failure makes the port forget that it is selected.
     fn read_selected(
         &mut self,
         file: ElementaryFile,
@@ -115,7 +116,7 @@ impl<C: Chip> Port<C> {
         read
     }
 
-    // Reads what one command can, from the file in which a place lies: how many bytes.
+    /// Reads what one command can, from the file in which a place lies: how many bytes.
     fn read_part(&mut self, place: u32, out: &mut [u8]) -> Result<usize, Failed>
         requires some { 0 < length out.old }
         requires inside { place + length out.old ≤ image_size_of self.old.application }
@@ -136,7 +137,7 @@ impl<C: Chip> Port<C> {
         Ok(len)
     }
 
-    // Reads bytes of the flat image, command by command.
+    /// Reads bytes of the flat image, command by command.
     fn read_all(&mut self, place: u32, out: &mut [u8]) -> Result<(), Failed>
         requires some { 0 < length out.old }
         requires inside { place + length out.old ≤ image_size_of self.old.application }
@@ -154,7 +155,7 @@ impl<C: Chip> Port<C> {
         Ok(())
     }
 
-    // Writes to the selected file with one command. A failure makes the port forget that it is selected.
+    /// Writes to the selected file with one command. A failure makes the port forget that it is selected.
     fn write_part(&mut self, file: ElementaryFile, place: u32, bytes: &[u8]) -> Result<(), Failed>
         requires selected { self.old.selected ≡ Some file }
         requires updated { file.updated ≡ true }
@@ -175,7 +176,7 @@ impl<C: Chip> Port<C> {
         written
     }
 
-    // Writes bytes of one file, command by command.
+    /// Writes bytes of one file, command by command.
     fn write_all(&mut self, file: ElementaryFile, place: u32, bytes: &[u8]) -> Result<(), Failed>
         requires selected { self.old.selected ≡ Some file }
         requires updated { file.updated ≡ true }
@@ -201,6 +202,12 @@ impl<C: Chip> Port<C> {
 impl<C: Chip + Drop> Port<C> {
     /// Reads the card's sizes. The chip's size is at least 24959. A refusal drops `chip`, so callers hand in a `&mut
     /// C`.
+    ///
+    /// # Errors
+    ///
+    /// 1. `Failed` where a call on the chip failed.
+    /// 2. `BadApplication` exactly where a field of Application_Identification is out of its range, with the number of
+    ///    the first such field.
     pub fn load(mut chip: C) -> Result<Port<C>, PortFault>
         requires { LARGEST_IMAGE ≤ (C.state chip).size }
         ensures reads { IfOk result (λ port. Reads (C.state chip) (C.state port.chip) false) }
@@ -215,7 +222,7 @@ impl<C: Chip + Drop> Port<C> {
     }
 }
 
-// The directory under which a file stands.
+/// The directory under which a file stands.
 fn directory_of(fid: Fid) -> Directory
     ensures { is_under result fid ≡ true }
 {

@@ -1,3 +1,4 @@
+//! One command to a chip, and its answer.
 ghost use Rattle.std.specs.Prelude.{◌^◌, ◌≡◌, ◌≤◌, ◌<◌, ◌+◌, true, length, Some, OnOk, OnErr, IfSome, is_err};
 ghost use Rattle.card_commands.specs.declared.port.TheConstants.{READ_MOST, WRITE_MOST};
 ghost use Rattle.tach_media.specs.Medium.{Reads, bytes_at};
@@ -11,7 +12,7 @@ use crate::codec::{write_command, write_update};
 use card_layout::{Command, Directory, ElementaryFile, Fid};
 use tach_media::{Answer, Chip, Failed};
 
-// Sends a command and takes its answer.
+/// Sends a command and takes its answer.
 fn send<C: Chip>(chip: &mut C, command: &Command, answer: &mut Answer) -> Result<(), Failed>
     requires { IsWritable command.now }
     ensures sent { OnOk result (IsSent command.now (C.state chip.old).image (C.card chip.old) (C.card chip.new)
@@ -24,6 +25,10 @@ fn send<C: Chip>(chip: &mut C, command: &Command, answer: &mut Answer) -> Result
 }
 
 /// Makes a directory current.
+///
+/// # Errors
+///
+/// `Failed` where the call on the chip failed.
 pub fn enter<C: Chip>(chip: &mut C, directory: Directory) -> Result<(), Failed>
     ensures card { OnOk result (C.card chip.new ≡ in_directory directory (C.card chip.old)) }
     ensures reads { Reads (C.state chip.old) (C.state chip.new) (is_err result) }
@@ -37,6 +42,10 @@ pub fn enter<C: Chip>(chip: &mut C, directory: Directory) -> Result<(), Failed>
 }
 
 /// Selects a file under the current directory.
+///
+/// # Errors
+///
+/// `Failed` where the call on the chip failed.
 pub fn select<C: Chip>(chip: &mut C, file: ElementaryFile) -> Result<(), Failed>
     requires { found (C.card chip.old) file.fid ≡ Some file }
     ensures card { OnOk result (C.card chip.new ≡ record (C.card chip.old) { selected = Some file }) }
@@ -47,6 +56,10 @@ pub fn select<C: Chip>(chip: &mut C, file: ElementaryFile) -> Result<(), Failed>
 }
 
 /// Reads at most 256 bytes of the selected file.
+///
+/// # Errors
+///
+/// `Failed` where the call on the chip failed.
 pub fn read<C: Chip>(
     chip: &mut C,
     file: ElementaryFile,
@@ -81,6 +94,10 @@ pub fn read<C: Chip>(
 }
 
 /// Writes at most 255 bytes to the selected file, which may be updated.
+///
+/// # Errors
+///
+/// `Failed` where the call on the chip failed.
 pub fn update<C: Chip>(
     chip: &mut C,
     file: ElementaryFile,
@@ -100,7 +117,7 @@ pub fn update<C: Chip>(
     send_update(chip, offset, bytes, &mut Answer::new())
 }
 
-// Sends an update and takes its answer.
+/// Sends an update and takes its answer.
 fn send_update<C: Chip>(
     chip: &mut C,
     offset: u16,

@@ -1,3 +1,4 @@
+//! A driver card over a medium, which answers commands by their tables.
 ghost use Rattle.std.specs.Prelude.{◌≡◌, ◌≤◌, ◌<◌, ◌+◌, ◌++◌, ◌/◌, ◌%◌, [], ◌∷◌, true, not, length, Some, None, Ok};
 ghost use Rattle.std.specs.Prelude.{OnOk, OnErr, IfOk, IfSome, is_ok, is_err};
 ghost use Rattle.card_commands.specs.declared.port.TheConstants.{READ_MOST, WRITE_MOST};
@@ -82,7 +83,7 @@ impl<M: Medium> SimCard<M> {
         medium
     }
 
-    // Finds out whether the medium works, where that isn't known.
+    /// Finds out whether the medium works, where that isn't known.
     fn wake(&mut self) -> Result<(), Failed>
         ensures reads { Reads (M.state self.old.medium) (M.state self.new.medium) (is_err result) }
         ensures card { self.new.card ≡ self.old.card }
@@ -107,7 +108,7 @@ impl<M: Medium> SimCard<M> {
         read
     }
 
-    // Writes behind Application_Identification.
+    /// Writes behind Application_Identification.
     fn write(&mut self, place: u32, bytes: &[u8]) -> Result<(), Failed>
         requires inside { place + length bytes.now ≤ (M.state self.old.medium).size }
         requires behind { APPLICATION_RANGE.base + APPLICATION_RANGE.len ≤ place }
@@ -121,8 +122,8 @@ impl<M: Medium> SimCard<M> {
         written
     }
 
-    // The bytes of Application_Identification by which the card goes. They are fixed here, unless an earlier command
-    // has needed the sizes.
+    /// The bytes of Application_Identification by which the card goes. They are fixed here, unless an earlier command
+    /// has needed the sizes.
     fn fix(&mut self) -> Result<[u8; 10], Failed>
         requires { self.old.works ≡ true }
         ensures sizes { OnOk result (Fixes true (M.state self.old.medium).image self.old.card.application
@@ -141,7 +142,7 @@ impl<M: Medium> SimCard<M> {
         Ok(application)
     }
 
-    // The file with this identifier, in whichever directory.
+    /// The file with this identifier, in whichever directory.
     fn find(&mut self, fid: Fid) -> Result<Option<ElementaryFile>, Failed>
         requires { self.old.works ≡ true }
         ensures sizes { OnOk result (Fixes (not (is_fixed fid)) (M.state self.old.medium).image
@@ -160,7 +161,7 @@ impl<M: Medium> SimCard<M> {
         Ok(sized_file(&application, fid))
     }
 
-    // Makes a directory current, with no file selected.
+    /// Makes a directory current, with no file selected.
     fn enter(&mut self, directory: Directory) -> u16
         ensures status { result ≡ 0x9000 }
         ensures card { self.new.card ≡ in_directory directory self.old.card }
@@ -172,7 +173,7 @@ impl<M: Medium> SimCard<M> {
         DONE
     }
 
-    // SELECT by file identifier.
+    /// SELECT by file identifier.
     fn select(&mut self, fid: Fid) -> Result<u16, Failed>
         requires { self.old.works ≡ true }
         ensures performed { IfOk result (λ status. IsPerformed (Ok (Select fid)) (M.state self.old.medium).image
@@ -193,7 +194,7 @@ impl<M: Medium> SimCard<M> {
         Ok(DONE)
     }
 
-    // The bytes of a file from an offset on; Application_Identification as the card goes by it.
+    /// The bytes of a file from an offset on; Application_Identification as the card goes by it.
     fn file_bytes(
         &mut self,
         file: ElementaryFile,
@@ -220,7 +221,7 @@ impl<M: Medium> SimCard<M> {
         Ok(())
     }
 
-    // The selected file.
+    /// The selected file.
     fn selected(&self) -> Option<ElementaryFile>
         ensures value { result ≡ self.now.card.selected }
         ensures inside { IfSome result IsFile }
@@ -229,7 +230,7 @@ impl<M: Medium> SimCard<M> {
         self.card.selected
     }
 
-    // READ BINARY.
+    /// READ BINARY.
     fn read_binary(&mut self, offset: u16, len: u16, answer: &mut Answer) -> Result<u16, Failed>
         requires works { self.old.works ≡ true }
         requires len { len ≤ READ_MOST }
@@ -256,7 +257,7 @@ impl<M: Medium> SimCard<M> {
         Ok(DONE)
     }
 
-    // UPDATE BINARY.
+    /// UPDATE BINARY.
     fn update_binary(&mut self, offset: u16, bytes: &[u8]) -> Result<u16, Failed>
         requires works { self.old.works ≡ true }
         requires some { 0 < length bytes.now }
@@ -283,7 +284,7 @@ impl<M: Medium> SimCard<M> {
         Ok(DONE)
     }
 
-    // Does what a header with its data asks for that reads as a command.
+    /// Does what a header with its data asks for that reads as a command.
     fn perform(
         &mut self,
         read: &Result<Header, u16>,
@@ -362,7 +363,7 @@ impl<M: Medium> Chip for SimCard<M> {
     }
 }
 
-// Puts the status word behind the data.
+/// Puts the status word behind the data.
 fn conclude(answer: &mut Answer, status: u16)
     requires { length answer.old.items ≤ READ_MOST }
     ensures { answer.new.items ≡ answer.old.items ++ (status / 256 ∷ status % 256 ∷ []) }

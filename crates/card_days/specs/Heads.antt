@@ -43,19 +43,20 @@ heads_from r x so_far (d ∷ ds) = day_head (spot r.size (oldest_pointer r x) so
 abbrev pub heads_of : StringShape → List ℕ → List Day → List DayHead
 heads_of r x days = heads_from r x 0 days
 
--- the heads of the days before one that is there, and after it
+-- the heads of the days before one that is there
 abbrev pub older_heads : (r : StringShape) (x : List ℕ) (p : ℕ) (d : Day) → IsAt r x p d → List DayHead
 older_heads r x p d here = heads_from r x 0 here.older
 
+-- the heads of the days after it
 abbrev pub later_heads : (r : StringShape) (x : List ℕ) (p : ℕ) (d : Day) → IsAt r x p d → List DayHead
 later_heads r x p d here = heads_from r x (total here.older + len_of d) here.later
 
--- what `after` answers on an image for the head of a day that is there: the first of the later heads; `before` the last
--- of the older
+-- what `after` answers on an image for the head of a day that is there: the first of the later heads
 abbrev pub IsAfter : StringShape → List ℕ → DayHead → Option DayHead → Type 0
 IsAfter r x head answer = (d : Day) (here : IsAt r x head.place d)
     → answer ≡ slice_get (later_heads r x head.place d here) 0
 
+-- what `before` answers for it: the last of the older heads
 abbrev pub IsBefore : StringShape → List ℕ → DayHead → Option DayHead → Type 0
 IsBefore r x head answer = (d : Day) (here : IsAt r x head.place d)
     → answer ≡ last_or None (older_heads r x head.place d here)

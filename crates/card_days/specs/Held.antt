@@ -13,6 +13,7 @@ pub record Held : Type 0 where
   pub shape : StringShape
   pub tail : Tail
 
+-- what is kept is within the bounds of a string, whatever the image tells
 pub record IsInBounds (v : Held) : Type 0 where
   pub shape : IsStringShape v.shape
   pub pointer : IsPointer v.shape.size v.tail.head.place
@@ -61,5 +62,6 @@ tail_by place used [] = None
 tail_by place used (d ∷ []) = Some (record { head = day_head place d; latest = last_word d.words; used = used })
 tail_by place used (d ∷ e ∷ ds) = tail_by place used (e ∷ ds)
 
+-- the tail of the string in an image that holds these days
 abbrev pub tail_in : StringShape → List ℕ → List Day → Option Tail
 tail_in r x days = tail_by (newest_pointer r x) (total days) days

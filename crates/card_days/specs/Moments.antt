@@ -31,10 +31,11 @@ OrRemain r room Is days c = ((kept : List Day) × Remain room days kept × Holds
 abbrev pub HoldsChanged : StringShape → ℕ → List Day → List ℕ → Type 0
 HoldsChanged r w days y = HoldsDays r y (with_newest (with_word w) (fitting (r.size - 2) days))
 
--- a moment of `add_change`, and after it
+-- a moment of `add_change`
 abbrev pub IsChanging : StringShape → ℕ → List ℕ → List ℕ → Type 0
 IsChanging r w x c = IsOfDays r (OnNewest (TakesWord w)) (OrRemain r (r.size - 2) (HoldsChanged r w)) x c
 
+-- after `add_change` the string holds the new list
 abbrev pub IsChanged : StringShape → ℕ → List ℕ → List ℕ → Type 0
 IsChanged r w x y = IsOfDays r (OnNewest (TakesWord w)) (HoldsChanged r w) x y
 
@@ -57,14 +58,16 @@ abbrev pub HoldsBegun : StringShape → (date : ℕ) → (words : List ℕ) → 
 HoldsBegun r date words days y = HoldsDays r y
     (fitting (r.size - (12 + 2 * length words)) days ++ new_day days date words ∷ [])
 
--- a moment of `begin_day`, and after it
+-- a moment of `begin_day`
 abbrev pub IsDayBeginning : StringShape → (date : ℕ) → (words : List ℕ) → List ℕ → List ℕ → Type 0
 IsDayBeginning r date words x c = IsOfDays r (λ days. IsNext days date words)
     (OrRemain r (r.size - (12 + 2 * length words)) (HoldsBegun r date words)) x c
 
+-- after `begin_day` the string holds the new list
 abbrev pub IsDayBegun : StringShape → (date : ℕ) → (words : List ℕ) → List ℕ → List ℕ → Type 0
 IsDayBegun r date words x y = IsOfDays r (λ days. IsNext days date words) (HoldsBegun r date words) x y
 
+-- what is kept after `begin_day` is what the image tells then
 abbrev pub KnowsBegun : (v next : Held) → (date : ℕ) → (words : List ℕ) → List ℕ → List ℕ → Type 0
 KnowsBegun v next date words x y = (days : List Day) → Knows v x days → IsNext days date words
     → Knows next y (fitting (v.shape.size - (12 + 2 * length words)) days ++ new_day days date words ∷ [])

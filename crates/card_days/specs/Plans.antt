@@ -97,9 +97,10 @@ tail_begun v date words used = record {
 abbrev pub mend_pieces : Held → List Piece
 mend_pieces v = piece (at v.shape (oldest_at v v.tail.used)) (two_bytes 0) ∷ []
 
--- the distance of the newest day
+-- the write of the distance of the newest day
 abbrev pub km_pieces : Held → ℕ → List Piece
 km_pieces v km = piece (at v.shape (spot v.shape.size v.tail.head.place 10)) (two_bytes km) ∷ []
 
+-- the tail with another distance of the newest day
 abbrev pub tail_km : Tail → ℕ → Tail
 tail_km t km = record { head = record t.head { km = record { 0 = km } }; latest = t.latest; used = t.used }

@@ -14,11 +14,12 @@ abbrev pub roomier : ℕ → List Day → List Day
 roomier room [] = []
 roomier room (d ∷ ds) = if nat_le (total (d ∷ ds)) room then d ∷ ds else ds
 
--- bytes on the string, round its end
+-- the image with bytes on the string, round its end
 abbrev pub put_round : StringShape → ℕ → List ℕ → List ℕ → List ℕ
 put_round r p bytes x = if nat_le (length bytes) (r.size - p) then put (at r p) bytes x
     else put (at r 0) (drop (r.size - p) bytes) (put (at r p) (take (r.size - p) bytes) x)
 
+-- a moment at which bytes are written on the string, round its end: by one write, or by two
 abbrev pub IsRounding : StringShape → ℕ → List ℕ → List ℕ → List ℕ → Type 0
 IsRounding r p bytes x c =
     ((length bytes ≤ r.size - p) × IsPartlyWritten (at r p) bytes x c)
@@ -26,26 +27,31 @@ IsRounding r p bytes x c =
     × (IsPartlyWritten (at r p) (take (r.size - p) bytes) x c
     ⊎ IsPartlyWritten (at r 0) (drop (r.size - p) bytes) (put (at r p) (take (r.size - p) bytes) x) c))
 
--- the newest pointer, where it differs
+-- the image with the newest pointer at a place
 abbrev pub newest_pointed : StringShape → ℕ → ℕ → List ℕ → List ℕ
 newest_pointed r n p x = if n == p then x else put (r.base + 2) (two_bytes p) x
 
+-- a moment at which the newest pointer is written, where it differs
 abbrev pub IsPointing : StringShape → ℕ → ℕ → List ℕ → List ℕ → Type 0
 IsPointing r n p x c = (n ≢ p) × IsPartlyWritten (r.base + 2) (two_bytes p) x c
 
--- the writes of a new day: the length before it, its body, its length, and the pointer
+-- A NEW DAY: the image after the first of its writes, the length of the day before it
 abbrev pub preceded : StringShape → ℕ → ℕ → List ℕ → List ℕ
 preceded r p len x = put (at r p) (two_bytes len) x
 
+-- after the second, its body
 abbrev pub day_filled : StringShape → ℕ → ℕ → List ℕ → List ℕ → List ℕ
 day_filled r p len bytes x = put_round r (spot r.size p 4) bytes (preceded r p len x)
 
+-- after the third, its own length
 abbrev pub measured : StringShape → ℕ → ℕ → List ℕ → List ℕ → List ℕ
 measured r p len bytes x = put (at r (spot r.size p 2)) (two_bytes (4 + length bytes)) (day_filled r p len bytes x)
 
+-- after the last, the newest pointer
 abbrev pub begun : StringShape → ℕ → ℕ → ℕ → List ℕ → List ℕ → List ℕ
 begun r n p len bytes x = newest_pointed r n p (measured r p len bytes x)
 
+-- a moment of one of these four writes
 abbrev pub IsBeginStep : StringShape → ℕ → ℕ → ℕ → List ℕ → List ℕ → List ℕ → Type 0
 IsBeginStep r n p len bytes x c =
     IsPartlyWritten (at r p) (two_bytes len) x c
@@ -68,6 +74,7 @@ pub record IsMeasured (r : StringShape) (km : ℕ) (x y : List ℕ) : Type 0 whe
   pub outside : SameOutside r.base (4 + r.size) x y
   pub list : (days : List Day) → HoldsDays r x days → days ≢ [] → HoldsDays r y (with_newest (with_km km) days)
 
+-- a moment at which the distance is written: the days are the old ones, or have it
 pub record IsMeasuring (r : StringShape) (km : ℕ) (x c : List ℕ) : Type 0 where
   pub outside : SameOutside r.base (4 + r.size) x c
   pub list : (days : List Day) → HoldsDays r x days → days ≢ []

@@ -22,6 +22,7 @@ pub record IsTrimming (r : StringShape) (date count : ℕ) (x c : List ℕ) : Ty
   pub list : (days : List Day) → HoldsDays r x days
       → (kept : List Day) × ShorterBy date count days kept × HoldsDays r c kept
 
+-- all days later than the date are gone
 pub record IsTrimmed (r : StringShape) (date : ℕ) (x y : List ℕ) : Type 0 where
   pub outside : SameOutside r.base (4 + r.size) x y
   pub list : (days : List Day) → HoldsDays r x days → HoldsDays r y (until date days)
@@ -31,6 +32,7 @@ pub record IsWithoutLast (r : StringShape) (x y : List ℕ) : Type 0 where
   pub outside : SameOutside r.base (4 + r.size) x y
   pub list : (older : List Day) (d : Day) → HoldsDays r x (older ++ d ∷ []) → HoldsDays r y older
 
+-- a moment at which the newest day goes: it is there, or it is gone
 pub record IsLosingLast (r : StringShape) (x c : List ℕ) : Type 0 where
   pub outside : SameOutside r.base (4 + r.size) x c
   pub list : (older : List Day) (d : Day) → HoldsDays r x (older ++ d ∷ [])
@@ -41,6 +43,7 @@ pub record IsCutLast (r : StringShape) (minute : ℕ) (x y : List ℕ) : Type 0 
   pub outside : SameOutside r.base (4 + r.size) x y
   pub list : (days : List Day) → HoldsDays r x days → HoldsDays r y (with_newest (cut minute) days)
 
+-- a moment of this cut: the days are the old ones, or the cut ones
 pub record IsCuttingLast (r : StringShape) (minute : ℕ) (x c : List ℕ) : Type 0 where
   pub outside : SameOutside r.base (4 + r.size) x c
   pub list : (days : List Day) → HoldsDays r x days → HoldsDays r c days ⊎ HoldsDays r c (with_newest (cut minute) days)

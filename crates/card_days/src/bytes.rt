@@ -1,3 +1,4 @@
+//! Numbers of the string in bytes.
 ghost use Rattle.std.specs.Prelude.{◌≡◌, ◌≤◌, ◌<◌, ◌+◌, length, IfOk, OnOk, IfSome, is_err, option_map, take};
 ghost use Rattle.std.specs.Prelude.{slice_index, ◌*◌};
 ghost use Rattle.tach_media.specs.Medium.{LeavesOnly, Reads, HasCause, LiesInside, IsPartlyWritten, IsSettled};
@@ -9,6 +10,10 @@ ghost use Rattle.card_model.specs.Days.{body};
 use tach_media::{Failed, Medium};
 
 /// The number in two bytes, the highest first.
+///
+/// # Errors
+///
+/// `Failed` where a call on the medium failed.
 pub fn read_two<M: Medium>(medium: &mut M, place: u32) -> Result<u32, Failed>
     requires { place + 2 ≤ (M.state medium.old).size }
     ensures value { IfOk result (λ n. IfSome (M.state medium.old).image (λ x. n ≡ number (bytes_at x place 2))) }
@@ -32,6 +37,10 @@ pub fn number_of(bytes: &[u8]) -> u32
 }
 
 /// Writes a number in two bytes.
+///
+/// # Errors
+///
+/// `Failed` where a call on the medium failed.
 pub fn write_two<M: Medium>(medium: &mut M, place: u32, n: u32) -> Result<(), Failed>
     requires inside { place + 2 ≤ (M.state medium.old).size }
     requires writable { LiesInside (M.state medium.old).writable place 2 }
@@ -62,7 +71,7 @@ pub fn counter_after(n: u32) -> u32
     if n >= 9999 { 0 } else { n + 1 }
 }
 
-// The second word, where there is one.
+/// The second word, where there is one.
 fn second(words: &[u16]) -> u16
     requires { 1 ≤ length words.now }
     ensures { length words.now ≡ 2 → result ≡ slice_index words.now 1 }

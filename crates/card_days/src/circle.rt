@@ -1,3 +1,4 @@
+//! The circle of bytes in which the days stand: its pointers, its lengths and its heads.
 ghost use Rattle.std.specs.Prelude.{◌≡◌, ◌≤◌, ◌<◌, ◌+◌, ◌%◌, ℕ, length, slice_index, IfOk, OnOk, IfSome, is_err};
 ghost use Rattle.std.specs.Prelude.{option_map, take, Some, None, []};
 ghost use Rattle.card_model.specs.declared.lengths.TheConstants.{DAY_MOST};
@@ -40,7 +41,7 @@ impl Model for Circle {
 }
 
 impl Circle {
-    // The days of a range, which is the file of days.
+    /// The days of a range, which is the file of days.
     pub(crate) fn of(range: Range) -> Circle
         requires { IsStringShape (shape_of range) }
         ensures shape { result ≡ shape_of range }
@@ -52,14 +53,14 @@ impl Circle {
         }
     }
 
-    // Where the file of days begins.
+    /// Where the file of days begins.
     pub(crate) fn base(&self) -> u32
         ensures { result ≡ self.now.base }
     {
         self.base
     }
 
-    // How many bytes the string has.
+    /// How many bytes the string has.
     pub(crate) fn size(&self) -> u32
         ensures size { result ≡ self.now.size }
         ensures most { result ≤ STRING_MOST }
@@ -67,7 +68,7 @@ impl Circle {
         self.size
     }
 
-    // A number, or 0 where it is no pointer.
+    /// A number, or 0 where it is no pointer.
     pub(crate) fn pointer(&self, n: u32) -> u32
         ensures same { IsPointer self.now.size n → result ≡ n }
         ensures pointer { IsPointer self.now.size result }
@@ -76,7 +77,7 @@ impl Circle {
         if n < size && n % 2 == 0 { n } else { 0 }
     }
 
-    // A number, or 0 where it is no length of a day.
+    /// A number, or 0 where it is no length of a day.
     pub(crate) fn day_len(n: u32) -> u32
         ensures same { n % 2 ≡ 0 → n ≤ DAY_MOST → result ≡ n }
         ensures taken { 0 < result → result ≡ n }
@@ -86,7 +87,7 @@ impl Circle {
         if n % 2 == 0 && n <= DAY_MOST { n } else { 0 }
     }
 
-    // The place so far behind another, round the end.
+    /// The place so far behind another, round the end.
     pub(crate) fn spot(&self, from: u32, distance: u32) -> u32
         requires pointer { IsPointer self.now.size from }
         requires even { distance % 2 ≡ 0 }
@@ -101,7 +102,7 @@ impl Circle {
         if sum < size { sum } else { sum - size }
     }
 
-    // How far a place lies behind another, round the end.
+    /// How far a place lies behind another, round the end.
     pub(crate) fn distance(&self, from: u32, to: u32) -> u32
         requires pointer { IsPointer self.now.size from }
         requires pointer_to { IsPointer self.now.size to }
@@ -116,7 +117,7 @@ impl Circle {
         }
     }
 
-    // The place so far before another, round the end.
+    /// The place so far before another, round the end.
     pub(crate) fn back(&self, from: u32, distance: u32) -> u32
         requires pointer { IsPointer self.now.size from }
         requires even { distance % 2 ≡ 0 }
@@ -132,7 +133,7 @@ impl Circle {
         }
     }
 
-    // The oldest pointer.
+    /// The oldest pointer.
     pub(crate) fn oldest<M: Medium>(&self, medium: &mut M) -> Result<u32, Failed>
         requires fits { FileFitsIn self.now (M.state medium.old) }
         ensures oldest { IfOk result (λ p. IfSome (M.state medium.old).image (λ x. IsPointer self.now.size
@@ -145,7 +146,7 @@ impl Circle {
         Ok(self.pointer(n))
     }
 
-    // The newest pointer.
+    /// The newest pointer.
     pub(crate) fn newest<M: Medium>(&self, medium: &mut M) -> Result<u32, Failed>
         requires fits { FileFitsIn self.now (M.state medium.old) }
         ensures newest { IfOk result (λ p. IfSome (M.state medium.old).image (λ x. IsPointer self.now.size
@@ -158,7 +159,7 @@ impl Circle {
         Ok(self.pointer(n))
     }
 
-    // The length of the day at a place.
+    /// The length of the day at a place.
     pub(crate) fn len_at<M: Medium>(&self, medium: &mut M, place: u32) -> Result<u32, Failed>
         requires fits { FileFitsIn self.now (M.state medium.old) }
         requires pointer { IsPointer self.now.size place }
@@ -175,7 +176,7 @@ impl Circle {
         Ok(Self::day_len(n))
     }
 
-    // The length of the day before the one at a place.
+    /// The length of the day before the one at a place.
     pub(crate) fn previous_at<M: Medium>(&self, medium: &mut M, place: u32) -> Result<u32, Failed>
         requires fits { FileFitsIn self.now (M.state medium.old) }
         requires pointer { IsPointer self.now.size place }
@@ -191,7 +192,7 @@ impl Circle {
         Ok(Self::day_len(n))
     }
 
-    // Reads bytes of the string that break over its end.
+    /// Reads bytes of the string that break over its end.
     fn read_broken<M: Medium>(
         &self,
         medium: &mut M,
@@ -214,7 +215,7 @@ impl Circle {
         Ok(())
     }
 
-    // The twelve bytes at a place of the string, round its end.
+    /// The twelve bytes at a place of the string, round its end.
     fn twelve_at<M: Medium>(&self, medium: &mut M, place: u32) -> Result<[u8; 12], Failed>
         requires fits { FileFitsIn self.now (M.state medium.old) }
         requires pointer { IsPointer self.now.size place }
@@ -232,7 +233,7 @@ impl Circle {
         Ok(bytes)
     }
 
-    // The number in two bytes so far behind a place of the string, round its end.
+    /// The number in two bytes so far behind a place of the string, round its end.
     pub(crate) fn two_at<M: Medium>(
         &self,
         medium: &mut M,
@@ -252,7 +253,7 @@ impl Circle {
         read_two(medium, field)
     }
 
-    // The numbers before the words of the day at a place.
+    /// The numbers before the words of the day at a place.
     pub(crate) fn head_at<M: Medium>(
         &self,
         medium: &mut M,
@@ -270,7 +271,7 @@ impl Circle {
         Ok(RecordHead::new(&bytes))
     }
 
-    // The head of the day at a place; `None` where the length there is 0.
+    /// The head of the day at a place; `None` where the length there is 0.
     pub(crate) fn day_at<M: Medium>(
         &self,
         medium: &mut M,
@@ -292,7 +293,7 @@ impl Circle {
         Ok(Some(head.at(place)))
     }
 
-    // A word of the day that begins at a place.
+    /// A word of the day that begins at a place.
     pub(crate) fn word_at<M: Medium>(
         &self,
         medium: &mut M,
@@ -311,7 +312,7 @@ impl Circle {
         read_two(medium, field)
     }
 
-    // Writes a number on the string.
+    /// Writes a number on the string.
     pub(crate) fn put_two<M: Medium>(
         &self,
         medium: &mut M,

@@ -1,3 +1,4 @@
+//! The string of days as its callers have it: it is loaded, and read day by day.
 ghost use Rattle.std.specs.Prelude.{◌≡◌, ◌≢◌, ◌≤◌, ◌<◌, ◌+◌, ◌*◌, ◌%◌, ℕ, List, [], length, slice_get, slice_index};
 ghost use Rattle.std.specs.Prelude.{None, IfOk, IfErr, OnOk, IfSome, is_err};
 ghost use Rattle.card_layout.specs.declared.files.TheConstants.{STRING_LEAST, STRING_MOST};
@@ -40,10 +41,14 @@ impl Model for Days {
 }
 
 impl Days {
-    /// The days of a range, which is the file Driver_Activity_Data. It writes nothing. `BadDays` comes exactly where
-    /// the string holds no list of days, with the place in the file where it first fails: the pointers; then of each
-    /// day, oldest first, its length, the length of the day before, its date, its counter and its words; and that the
-    /// next day begins at the newest pointer or before it.
+    /// The days of a range, which is the file Driver_Activity_Data. It writes nothing.
+    ///
+    /// # Errors
+    ///
+    /// 1. `Failed` where a call on the medium failed.
+    /// 2. `BadDays` exactly where the string holds no list of days, with the place in the file where it first fails:
+    ///    the pointers; then of each day, oldest first, its length, the length of the day before, its date, its counter
+    ///    and its words; and that the next day begins at the newest pointer or before it.
     pub fn load<M: Medium>(medium: &mut M, range: Range) -> Result<Days, DaysFault>
         requires inside { range.base + range.len ≤ (M.state medium.old).size }
         requires even { range.len % 2 ≡ 0 }
@@ -76,6 +81,10 @@ impl Days {
     }
 
     /// The head of the oldest day; `None` exactly where there is no day.
+    ///
+    /// # Errors
+    ///
+    /// `Failed` where a call on the medium failed.
     pub fn first<M: Medium>(&self, medium: &mut M) -> Result<Option<DayHead>, Failed>
         requires fits { FileFitsIn self.now.shape (M.state medium.old) }
         ensures first { IfOk result (λ o. IfSome (M.state medium.old).image (λ x. (days : List Day) → HoldsDays
@@ -87,6 +96,10 @@ impl Days {
     }
 
     /// The head of the newest day; `None` exactly where there is no day.
+    ///
+    /// # Errors
+    ///
+    /// `Failed` where a call on the medium failed.
     pub fn last<M: Medium>(&self, medium: &mut M) -> Result<Option<DayHead>, Failed>
         requires fits { FileFitsIn self.now.shape (M.state medium.old) }
         ensures last { IfOk result (λ o. IfSome (M.state medium.old).image (λ x. (days : List Day) → HoldsDays
@@ -98,6 +111,10 @@ impl Days {
     }
 
     /// The head of the day after one that is there; `None` exactly behind the newest. It follows the day's length.
+    ///
+    /// # Errors
+    ///
+    /// `Failed` where a call on the medium failed.
     pub fn after<M: Medium>(
         &self,
         medium: &mut M,
@@ -115,6 +132,10 @@ impl Days {
 
     /// The head of the day before one that is there; `None` exactly before the oldest. It follows the length that the
     /// day tells of the one before it.
+    ///
+    /// # Errors
+    ///
+    /// `Failed` where a call on the medium failed.
     pub fn before<M: Medium>(
         &self,
         medium: &mut M,
@@ -131,6 +152,10 @@ impl Days {
     }
 
     /// A change word of a day that is there, counted from 0.
+    ///
+    /// # Errors
+    ///
+    /// `Failed` where a call on the medium failed.
     pub fn word<M: Medium>(&self, medium: &mut M, head: &DayHead, index: u16) -> Result<u16, Failed>
         requires fits { FileFitsIn self.now.shape (M.state medium.old) }
         requires place { head.now.place < 4 + self.now.shape.size }

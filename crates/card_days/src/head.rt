@@ -1,3 +1,4 @@
+//! The heads of days, and what is kept of the newest end of a string.
 ghost use Rattle.std.specs.Prelude.{◌≡◌, ◌<◌, length};
 
 use crate::bytes::{decimal_of, number_of};

@@ -1,3 +1,4 @@
+//! The string is judged day by day, from the oldest to the newest.
 ghost use Rattle.std.specs.Prelude.{◌≡◌, ◌≤◌, ◌<◌, ◌+◌, ◌*◌, ◌%◌, Some, None, true, drop, IfOk, IfErr, IfSome, IfNone};
 ghost use Rattle.std.specs.Prelude.{OnOk, is_err, ◌&&◌, nat_le, nat_lt};
 ghost use Rattle.card_model.specs.declared.lengths.TheConstants.{DAY_LEAST, DAY_MOST, DAYS_MOST};
@@ -22,7 +23,7 @@ use card_model::lengths::{DAY_HEAD, DAY_LEAST, DAY_MOST};
 use tach_media::{Failed, Medium};
 
 impl Circle {
-    // Whether a length is that of a day behind so many bytes.
+    /// Whether a length is that of a day behind so many bytes.
     fn is_len(&self, so_far: u32, len: u32) -> bool
         requires short { so_far < 65536 }
         requires low { len < 65536 }
@@ -32,7 +33,7 @@ impl Circle {
         len % 2 == 0 && DAY_LEAST <= len && len <= DAY_MOST && so_far + len <= size
     }
 
-    // The offset of the first field of a record that fails.
+    /// The offset of the first field of a record that fails.
     fn first_bad_field(&self, head: &RecordHead, so_far: u32, before: u32, date: u32) -> Option<u32>
         requires below { so_far < self.now.size }
         requires even { so_far % 2 ≡ 0 }
@@ -59,7 +60,7 @@ impl Circle {
         None
     }
 
-    // The offset of the first word of a record that fails.
+    /// The offset of the first word of a record that fails.
     fn first_bad_word<M: Medium>(
         &self,
         medium: &mut M,
@@ -94,7 +95,7 @@ impl Circle {
         Ok(None)
     }
 
-    // The fault of a string that fails so far behind the oldest day.
+    /// The fault of a string that fails so far behind the oldest day.
     fn bad_at(&self, oldest: u32, distance: u32) -> DaysFault
         requires pointer { IsPointer self.now.size oldest }
         requires even { distance % 2 ≡ 0 }
@@ -106,8 +107,8 @@ impl Circle {
         DaysFault::BadDays(4 + self.spot(oldest, distance))
     }
 
-    // The head of the record that begins so far behind the oldest day, where it passes its checks. The day before has
-    // this length and this date.
+    /// The head of the record that begins so far behind the oldest day, where it passes its checks. The day before has
+    /// this length and this date.
     fn check_day<M: Medium>(
         &self,
         medium: &mut M,
@@ -143,7 +144,7 @@ impl Circle {
         Ok(head)
     }
 
-    // Walks from the oldest day to the newest, which begins so far behind it.
+    /// Walks from the oldest day to the newest, which begins so far behind it.
     fn check_days<M: Medium>(
         &self,
         medium: &mut M,
@@ -183,7 +184,7 @@ impl Circle {
         }
     }
 
-    // Whether there is no day: both pointers are equal, and the length there is 0.
+    /// Whether there is no day: both pointers are equal, and the length there is 0.
     fn is_empty<M: Medium>(&self, medium: &mut M, oldest: u32, newest: u32) -> Result<bool, Failed>
         requires works { (M.state medium.old).works ≡ true }
         requires fits { FileFitsIn self.now (M.state medium.old) }
@@ -200,17 +201,17 @@ impl Circle {
         Ok(len == 0)
     }
 
-    // Whether a number is a pointer into the string.
+    /// Whether a number is a pointer into the string.
     fn is_pointer(&self, n: u32) -> bool
         ensures { result ≡ is_pointer self.now.size n }
     {
         n < self.size() && n % 2 == 0
     }
 
-    // The days of a range, which is the file Driver_Activity_Data. It writes nothing. `BadDays` comes exactly where the
-    // string holds no list of days, with the place in the file where it first fails: the pointers; then of each day,
-    // oldest first, its length, the length of the day before, its date, its counter and its words; and that the next
-    // day begins at the newest pointer or before it.
+    /// The days of a range, which is the file Driver_Activity_Data. It writes nothing. `BadDays` comes exactly where
+    /// the string holds no list of days, with the place in the file where it first fails: the pointers; then of each
+    /// day, oldest first, its length, the length of the day before, its date, its counter and its words; and that the
+    /// next day begins at the newest pointer or before it.
     pub(crate) fn load<M: Medium>(medium: &mut M, range: Range) -> Result<Circle, DaysFault>
         requires inside { range.base + range.len ≤ (M.state medium.old).size }
         requires even { range.len % 2 ≡ 0 }
@@ -244,28 +245,28 @@ impl Circle {
     }
 }
 
-// Whether a minute is not before one and before another.
+/// Whether a minute is not before one and before another.
 fn is_between(from: u32, minute: u32, below: u32) -> bool
     ensures { result ≡ (nat_le from minute && nat_lt minute below) }
 {
     from <= minute && minute < below
 }
 
-// Whether a previous length is that of the day before, which is not asked of the oldest day.
+/// Whether a previous length is that of the day before, which is not asked of the oldest day.
 fn is_previous(so_far: u32, before: u32, previous: u32) -> bool
     ensures { result ≡ is_previous so_far before previous }
 {
     so_far == 0 || previous == before
 }
 
-// Whether a date is a midnight later than the date before.
+/// Whether a date is a midnight later than the date before.
 fn is_date(before: u32, date: u32) -> bool
     ensures { result ≡ is_date before date }
 {
     date % DAY_SECONDS == 0 && before < date
 }
 
-// Whether the half-bytes of a number are decimal digits.
+/// Whether the half-bytes of a number are decimal digits.
 fn is_decimal(n: u32) -> bool
     ensures { result ≡ is_decimal n }
 {

@@ -31,7 +31,7 @@ pub struct Rear {
 }
 
 impl Block {
-    // Whether it has the twelve bytes at a place.
+    /// Whether it has the twelve bytes at a place.
     fn has(&self, place: u32) -> bool
         ensures from { result ≡ true → self.now.place ≤ place }
         ensures to { result ≡ true → place + 12 ≤ self.now.place + BLOCK }
@@ -39,7 +39,7 @@ impl Block {
         self.place <= place && place - self.place <= BLOCK as u32 - 12
     }
 
-    // The numbers in the twelve bytes at a place.
+    /// The numbers in the twelve bytes at a place.
     fn head(&self, place: u32) -> RecordHead
         requires from { self.now.place ≤ place }
         requires to { place + 12 ≤ self.now.place + BLOCK }
@@ -60,8 +60,8 @@ impl Rear {
 }
 
 impl Circle {
-    // Where a block begins that has the twelve bytes at a place, unless they break over the end: as far before it as it
-    // can.
+    /// Where a block begins that has the twelve bytes at a place, unless they break over the end: as far before it as
+    /// it can.
     fn block_place(&self, place: u32) -> u32
         requires shape { IsStringShape self.now }
         requires pointer { IsPointer self.now.size place }
@@ -74,7 +74,7 @@ impl Circle {
         if start < most { start } else { most }
     }
 
-    // Reads such a block.
+    /// Reads such a block.
     fn block_at<M: Medium>(&self, medium: &mut M, place: u32) -> Result<Block, Failed>
         requires fits { FileFitsIn self.now (M.state medium.old) }
         requires shape { IsStringShape self.now }
@@ -91,7 +91,7 @@ impl Circle {
         Ok(Block { place, bytes })
     }
 
-    // A block that has the twelve bytes at a place, which do not break over the end: this one, where it has them.
+    /// A block that has the twelve bytes at a place, which do not break over the end: this one, where it has them.
     fn block_with<M: Medium>(
         &self,
         medium: &mut M,
@@ -116,7 +116,7 @@ impl Circle {
         self.block_at(medium, place)
     }
 
-    // The newest end of the string, whose pointers are these. What the block has of it is not read again.
+    /// The newest end of the string, whose pointers are these. What the block has of it is not read again.
     pub(crate) fn rear_at<M: Medium>(
         &self,
         medium: &mut M,
@@ -152,7 +152,7 @@ impl Circle {
         })
     }
 
-    // Reads the newest end of the string.
+    /// Reads the newest end of the string.
     pub(crate) fn rear<M: Medium>(&self, medium: &mut M) -> Result<Rear, Failed>
         requires fits { FileFitsIn self.now (M.state medium.old) }
         ensures shape { IsStringShape self.now }

@@ -1,3 +1,4 @@
+//! What is kept of the newest end of a string.
 ghost use Rattle.std.specs.Prelude.{◌≡◌, ◌≤◌, ◌<◌, ◌%◌, List, IfOk, IfSome, is_err};
 ghost use Rattle.tach_media.specs.Medium.{Reads};
 ghost use Rattle.card_model.specs.Days.{Day};
@@ -12,7 +13,7 @@ use tach_media::{Failed, Medium};
 use tacho_types::{Bcd2, Distance, TimeReal};
 
 impl Circle {
-    // The string's tail; nothing is in use where there is no day.
+    /// The string's tail; nothing is in use where there is no day.
     pub(crate) fn tail<M: Medium>(&self, medium: &mut M) -> Result<Tail, Failed>
         requires fits { FileFitsIn self.now (M.state medium.old) }
         ensures held { IfOk result (λ t. IsInBounds (record { shape = self.now; tail = t })) }
@@ -34,7 +35,7 @@ impl Circle {
     }
 }
 
-// A tail of these.
+/// A tail of these.
 fn tail_of(head: DayHead, latest: u32, used: u32) -> Tail
     requires { latest < 65536 }
     ensures { result ≡ record { head = head; latest = latest; used = used } }
@@ -46,7 +47,7 @@ fn tail_of(head: DayHead, latest: u32, used: u32) -> Tail
     }
 }
 
-// A number, or the most that it may be.
+/// A number, or the most that it may be.
 fn at_most(n: u32, most: u32) -> u32
     ensures same { n ≤ most → result ≡ n }
     ensures most { result ≤ most }
@@ -55,7 +56,7 @@ fn at_most(n: u32, most: u32) -> u32
     if n < most { n } else { most }
 }
 
-// The tail of a string without a day, where the next one begins there.
+/// The tail of a string without a day, where the next one begins there.
 fn no_day(place: u32) -> Tail
     ensures place { result.head.place ≡ place }
     ensures words { result.head.words ≡ 0 }

@@ -1,3 +1,4 @@
+//! Walks from a day to the next, and to the one before.
 ghost use Rattle.std.specs.Prelude.{◌≡◌, ◌≤◌, ◌<◌, ◌+◌, List, length, slice_get, slice_index, None, IfOk, OnOk, IfSome};
 ghost use Rattle.std.specs.Prelude.{is_err};
 ghost use Rattle.std.specs.List.{last_or};
@@ -13,7 +14,7 @@ use activity_codec::DAY_MINUTES;
 use tach_media::{Failed, Medium};
 
 impl Circle {
-    // The head of the oldest day; `None` exactly where there is no day.
+    /// The head of the oldest day; `None` exactly where there is no day.
     pub(crate) fn first<M: Medium>(&self, medium: &mut M) -> Result<Option<DayHead>, Failed>
         requires fits { FileFitsIn self.now (M.state medium.old) }
         ensures first { IfOk result (λ o. IfSome (M.state medium.old).image (λ x. (days : List Day) → HoldsDays self.now
@@ -25,7 +26,7 @@ impl Circle {
         self.day_at(medium, oldest)
     }
 
-    // The head of the newest day; `None` exactly where there is no day.
+    /// The head of the newest day; `None` exactly where there is no day.
     pub(crate) fn last<M: Medium>(&self, medium: &mut M) -> Result<Option<DayHead>, Failed>
         requires fits { FileFitsIn self.now (M.state medium.old) }
         ensures last { IfOk result (λ o. IfSome (M.state medium.old).image (λ x. (days : List Day) → HoldsDays self.now
@@ -37,7 +38,7 @@ impl Circle {
         self.day_at(medium, newest)
     }
 
-    // The head of the day after one that is there; `None` exactly behind the newest. It follows the day's length.
+    /// The head of the day after one that is there; `None` exactly behind the newest. It follows the day's length.
     pub(crate) fn after<M: Medium>(
         &self,
         medium: &mut M,
@@ -57,8 +58,8 @@ impl Circle {
         self.day_at(medium, self.spot(place, len))
     }
 
-    // The head of the day before one that is there; `None` exactly before the oldest. It follows the length that the
-    // day tells of the one before it.
+    /// The head of the day before one that is there; `None` exactly before the oldest. It follows the length that the
+    /// day tells of the one before it.
     pub(crate) fn before<M: Medium>(
         &self,
         medium: &mut M,
@@ -78,7 +79,7 @@ impl Circle {
         self.day_at(medium, self.back(place, len))
     }
 
-    // A change word of a day that is there, counted from 0.
+    /// A change word of a day that is there, counted from 0.
     pub(crate) fn word<M: Medium>(
         &self,
         medium: &mut M,

@@ -1,3 +1,4 @@
+//! Why a card file was not written to its end.
 use card_commands::PortFault;
 
 /// Why a card file was not written to its end.

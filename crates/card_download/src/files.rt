@@ -21,6 +21,11 @@ const VALUE: u8 = 0;
 const BLOCK: u32 = 256;
 
 /// Copies all files but Card_Download, in their order, each as an entry of a card file.
+///
+/// # Errors
+///
+/// 1. `Failed` where a call on the card failed.
+/// 2. `WriteFault` where the sink failed.
 pub fn copy_files<M: Medium, K: Sink>(
     app: &Application,
     medium: &mut M,

@@ -1,3 +1,4 @@
+//! Laws of a card file.
 ghost use Rattle.std.specs.Prelude.{◌≡◌, ℕ, List, Option, None};
 ghost use Rattle.activity_codec.specs.declared.entries.Entry.{Entry};
 ghost use Rattle.card_layout.specs.declared.files.Application.{Application};

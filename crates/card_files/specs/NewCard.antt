@@ -40,10 +40,11 @@ new_contents id app file =
     else if file.fid.0 == 0x0520 then identification_bytes id
     else replicate file.size 0
 
--- in how many bytes, and in how many all of these files
+-- how many bytes a new card has in a file
 abbrev pub new_size : CardFile → ℕ
 new_size file = if file.fid.0 == 0x0501 then 10 else if file.fid.0 == 0x0520 then 143 else file.size
 
+-- how many bytes it has in all of these files
 abbrev pub new_total : List CardFile → ℕ
 new_total [] = 0
 new_total (file ∷ files) = new_size file + new_total files

@@ -37,9 +37,10 @@ pub record IsEventNoted (app : Application) (event : CardEvent) (x y : List ℕ)
   pub takes : TakesPlace (event_ring app event.kind) x place
   pub entry : IsReplaced (event_ring app event.kind) place (event_bytes event) x y
 
--- a place entry is added to its ring
+-- a moment at which a place entry is added to its ring
 abbrev pub IsNotingPlace : Application → PlaceEntry → List ℕ → List ℕ → Type 0
 IsNotingPlace app entry = IsAdding (place_ring app) (place_bytes entry)
 
+-- after it: the place entry is added to its ring
 abbrev pub IsPlaceNoted : Application → PlaceEntry → List ℕ → List ℕ → Type 0
 IsPlaceNoted app entry = IsAdded (place_ring app) (place_bytes entry)

@@ -4,9 +4,11 @@ use Rattle.card_layout.specs.Fields.{joined, field_at}
 use Rattle.tacho_types.specs.Numbers.{time_bytes, time_of, odometer_bytes, odometer_of}
 use Rattle.card_files.specs.declared.vehicle.Vehicle.{Vehicle}
 
+-- the widths of its fields
 abbrev pub vehicle_widths : List ℕ
 vehicle_widths = 3 ∷ 3 ∷ 4 ∷ 4 ∷ 15 ∷ 2 ∷ []
 
+-- a vehicle entry in bytes
 unfoldable pub vehicle_bytes : Vehicle → List ℕ
 vehicle_bytes v =
     joined
@@ -18,6 +20,7 @@ vehicle_bytes v =
     ∷ v.counter
     ∷ [])
 
+-- the vehicle entry that bytes tell
 unfoldable pub vehicle_of : List ℕ → Vehicle
 vehicle_of bytes =
     record {

@@ -12,7 +12,11 @@ use card_layout::{Application, STRING_LEAST, STRING_MOST};
 #[derive(Clone, Copy, Debug, Default, PartialEq, Eq)]
 pub struct BadApplication(pub u8);
 
-/// What the ten bytes of Application_Identification tell; `BadApplication` exactly where a field is out of its range.
+/// What the ten bytes of Application_Identification tell.
+///
+/// # Errors
+///
+/// `BadApplication` exactly where a field is out of its range, with the number of the first such field.
 pub fn read_application(b: &[u8]) -> Result<Application, BadApplication>
     requires { length b.now ≡ 10 }
     ensures value { IsReading b.now result }

@@ -12,7 +12,7 @@ use tacho_types::TimeReal;
 /// Where the begin stands in an event.
 pub const BEGIN: usize = 1;
 
-// The begin of an event of the set, by its index.
+/// The begin of an event of the set, by its index.
 fn begin_of(set: &[u8], index: u32) -> u32
     requires { 24 * index + 24 ≤ length set.now }
     ensures { result ≡ number_at set.now (24 * index + 1) 4 }
@@ -39,7 +39,7 @@ pub fn earliest(set: &[u8], count: u32) -> u32
     found
 }
 
-// Whether these bytes are an event of a type with this begin.
+/// Whether these bytes are an event of a type with this begin.
 fn is_event(bytes: &[u8], kind: u8, begin: TimeReal) -> bool
     requires len { length bytes.now ≡ 24 }
     requires some { begin.0 ≢ 0 }

@@ -19,7 +19,7 @@ const MOST_EVENTS: usize = 12;
 
 const MOST_BYTES: usize = MOST_EVENTS * CardEvent::SIZE;
 
-// How far behind the first set that of a type begins.
+/// How far behind the first set that of a type begins.
 fn set_offset(app: &Application, kind: u8) -> u32
     requires { IsApplication app.now }
     ensures offset { result ≡ set_of kind * set_size app.now }
@@ -36,7 +36,7 @@ fn set_offset(app: &Application, kind: u8) -> u32
     }
 }
 
-// Where the set of a type begins.
+/// Where the set of a type begins.
 fn set_place(app: &Application, kind: u8) -> u32
     requires { IsApplication app.now }
     ensures place { result ≡ (event_ring app.now kind).base }
@@ -47,7 +47,7 @@ fn set_place(app: &Application, kind: u8) -> u32
     base + offset
 }
 
-// The ring of a type's events, which has no pointer.
+/// The ring of a type's events, which has no pointer.
 fn event_ring(app: &Application, kind: u8) -> Ring
     requires { IsApplication app.now }
     ensures { result ≡ event_ring app.now kind }
@@ -84,7 +84,7 @@ pub fn has_event<M: Medium>(
     Ok(holds(set, count, kind, begin))
 }
 
-// The place that a new event of a type takes in its set.
+/// The place that a new event of a type takes in its set.
 fn choose<M: Medium>(medium: &mut M, app: &Application, kind: u8) -> Result<u32, Failed>
     requires sizes { IsApplication app.now }
     requires fits { image_size_of app.now ≤ (M.state medium.old).size }

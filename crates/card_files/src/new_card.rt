@@ -46,7 +46,11 @@ const BLANK: Name36 = Name36([
 ]);
 
 /// The flat image of a new card of these sizes: Application_Identification, Identification, and zeros in every other
-/// file. The only refusal is want of memory.
+/// file.
+///
+/// # Errors
+///
+/// `Memory` where memory runs out.
 pub fn blank_card(
     alloc: Global,
     identity: &CardIdentity,

@@ -46,17 +46,19 @@ pub record IsFileEntry (e : FileEntry) : Type 0 where
   pub kind : e.kind ≤ 1
   pub short : length e.value < 2 ^ 16
 
--- the values of a file
+-- an entry is the value of the file with this identifier, and no signature
 abbrev pub is_value : ℕ → FileEntry → Bool
 is_value fid e = nat_eq e.kind 0 && nat_eq e.fid fid
 
+-- the values of a file among some entries
 abbrev pub values_of : ℕ → List FileEntry → List (List ℕ)
 values_of fid entries = map (λ e. e.value) (filter (is_value fid) entries)
 
--- the string of days as its file stands alone, and the vehicle entries
+-- the string of days as its file stands alone
 abbrev pub string_alone : Application → StringShape
 string_alone app = record { base = 0; size = app.activity }
 
+-- the ring of vehicle entries as its file stands alone
 abbrev pub vehicles_alone : Application → Shape
 vehicles_alone app = record (vehicle_ring app) { base = 0 }
 

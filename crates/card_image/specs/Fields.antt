@@ -36,6 +36,7 @@ vehicle_at app x (Some i) = Some (vehicle_of (entry_at (vehicle_ring app) x i))
 unfoldable pub newest_vehicle : Application → List ℕ → Option Vehicle
 newest_vehicle app x = vehicle_at app x (last_of (indices (vehicle_ring app) x))
 
+-- when a vehicle was last used, in seconds; 0 without one
 abbrev pub last_use_of : Option Vehicle → ℕ
 last_use_of None = 0
 last_use_of (Some v) = v.last_use.0

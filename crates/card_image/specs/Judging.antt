@@ -53,6 +53,7 @@ closing_checks mark latest [] = []
 closing_checks mark latest (w ∷ ws) = check (tells_none w && not (leaves_gap mark latest w)) w.place
     ∷ map (λ v. check (tells_none v) v.place) ws
 
+-- these checks of the words behind the mark, by the latest word up to it
 abbrev pub words_behind_mark : (mark : ℕ) → List PlacedWord → List Check
 words_behind_mark mark ws =
     closing_checks mark (last_of (filter (λ w. nat_le (minute_at w) mark) ws))
@@ -84,6 +85,7 @@ pub record FileCheck : Type 0 where
   pub fid : Fid
   pub bad : Option ℕ
 
+-- the check of the file with this identifier, and the place where it fails
 abbrev pub file_check : ℕ → Option ℕ → FileCheck
 file_check fid bad = record { fid = file fid; bad = bad }
 

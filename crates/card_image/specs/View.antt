@@ -38,6 +38,7 @@ pub record CardView : Type 0 where
   -- no second before this one may be recorded
   pub stored : ℕ
 
+-- what days show, by the last use, the end mark and the session time
 abbrev pub view_of : (last_use mark session : ℕ) → List Day → CardView
 view_of used mark session days =
     record {
@@ -49,5 +50,6 @@ view_of used mark session days =
       stored = stored_of used session days;
     }
 
+-- WHAT A CARD OF THESE SIZES SHOWS
 unfoldable pub card_view : Application → List ℕ → CardView
 card_view app x = view_of (last_use app x) (end_mark app x) (session_time app x) (card_days app x)

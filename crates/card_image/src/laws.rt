@@ -1,3 +1,4 @@
+//! Laws of what a card shows.
 ghost use Rattle.std.specs.Prelude.{◌≡◌, ℕ, max, List};
 ghost use Rattle.card_files.specs.card_layout.declared.files.Application.{Application};
 ghost use Rattle.card_files.specs.card_layout.Application.{IsApplication};

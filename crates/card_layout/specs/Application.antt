@@ -13,9 +13,11 @@ pub record Field : Type 0 where
   pub width : ℕ
   pub is_good : ℕ → Bool
 
+-- the field of this width that may hold these numbers
 abbrev pub field : ℕ → (ℕ → Bool) → Field
 field width is_good = record { width = width; is_good = is_good }
 
+-- a number is not below the first of two and not above the second
 abbrev pub is_between : ℕ → ℕ → ℕ → Bool
 is_between low high n = nat_le low n && nat_le n high
 
@@ -31,6 +33,7 @@ application_fields =
     ∷ field 1 (is_between 84 112)
     ∷ []
 
+-- the widths of these fields, in bytes
 abbrev pub application_widths : List ℕ
 application_widths = map (λ f. f.width) application_fields
 
@@ -49,6 +52,7 @@ abbrev pub place_before : ℕ → List Field → ℕ
 place_before n [] = 0
 place_before n (f ∷ fs) = if nat_le n 1 then 0 else f.width + place_before (n - 1) fs
 
+-- the same of the fields of Application_Identification
 abbrev pub place_of_field : ℕ → ℕ
 place_of_field n = place_before n application_fields
 

@@ -9,13 +9,15 @@ use Rattle.card_layout.specs.declared.command.Command.TheVariants.{Application, 
 abbrev pub tachograph_name : List ℕ
 tachograph_name = 0xFF ∷ 0x54 ∷ 0x41 ∷ 0x43 ∷ 0x48 ∷ 0x4F ∷ []
 
--- SELECT FILE, READ BINARY and UPDATE BINARY, by the instruction
+-- SELECT FILE, by the instruction
 abbrev pub is_select : List ℕ → Bool
 is_select b = slice_index b 1 == 0xA4
 
+-- READ BINARY, by the instruction
 abbrev pub is_read : List ℕ → Bool
 is_read b = slice_index b 1 == 0xB0
 
+-- UPDATE BINARY, by the instruction
 abbrev pub is_update : List ℕ → Bool
 is_update b = slice_index b 1 == 0xD6
 

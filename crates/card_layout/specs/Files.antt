@@ -46,10 +46,11 @@ range_from base (f ∷ fs) fid = if fid.0 == f.fid.0 then Some (record { base = 
 abbrev pub range_of : Application → Fid → Option Range
 range_of app fid = range_from 0 (files_of app) fid
 
--- the place and the size of a file, 0 where there is none with this identifier
+-- the place of a file in the flat image, 0 where there is none with this identifier
 abbrev pub place_of : Application → Fid → ℕ
 place_of app fid = unwrap_or (option_map (λ r. r.base) (range_of app fid)) 0
 
+-- the size of a file in bytes, 0 where there is none with this identifier
 abbrev pub size_of : Application → Fid → ℕ
 size_of app fid = unwrap_or (option_map (λ r. r.len) (range_of app fid)) 0
 
@@ -67,6 +68,7 @@ abbrev pub is_updated_in : List CardFile → Fid → Bool
 is_updated_in [] fid = false
 is_updated_in (f ∷ fs) fid = if fid.0 == f.fid.0 then f.updated else is_updated_in fs fid
 
+-- the same among the files of a card of these sizes
 abbrev pub is_updated : Application → Fid → Bool
 is_updated app fid = is_updated_in (files_of app) fid
 
@@ -77,6 +79,7 @@ updated_from base (f ∷ fs) =
     if f.updated then record { base = base; len = f.size } ∷ updated_from (base + f.size) fs
     else updated_from (base + f.size) fs
 
+-- the ranges that the unit updates on a card of these sizes
 abbrev pub updated_ranges : Application → List Range
 updated_ranges app = updated_from 0 (files_of app)
 

@@ -9,5 +9,6 @@ pub record IsPartlyIssued (image old new : List ℕ) : Type 0 where
   pub outside : SameOutside 0 (length image) old new
   pub typeless : bytes_at new APPLICATION_RANGE.base 1 ≡ 0 ∷ []
 
+-- an issue was cut short, or the image is the given one with what stood behind it
 abbrev pub IsIssued : List ℕ → List ℕ → List ℕ → Type 0
 IsIssued image old new = IsPartlyIssued image old new ⊎ (new ≡ put 0 image old)

@@ -37,6 +37,7 @@ is_under Tachograph fid = not (fid.0 == 0x0002 || fid.0 == 0x0005)
 abbrev pub is_fixed : Fid → Bool
 is_fixed fid = fid.0 == 0x0002 || fid.0 == 0x0005 || fid.0 == 0x0501
 
+-- the range of each of these three
 abbrev pub fixed_range : Fid → Range
 fixed_range fid =
     if fid.0 == 0x0002 then record { base = 0; len = 25 }
@@ -78,9 +79,11 @@ pub record Outcome : Type 0 where
 abbrev pub refused : ℕ → CardState → Outcome
 refused status card = record { status = status; card = card; effect = nothing }
 
+-- what is done has the status 9000, and leaves this state and this effect
 abbrev pub done : CardState → Effect → Outcome
 done card effect = record { status = 0x9000; card = card; effect = effect }
 
+-- SELECT of a file that was found is remembered; of one that was not it is refused
 abbrev pub select_found : CardState → Option ElementaryFile → Outcome
 select_found card None = refused 0x6A82 card
 select_found card (Some file) = done (record card { selected = Some file }) nothing
@@ -120,6 +123,7 @@ command_outcome card (Read offset len) = on_selected card card.selected (λ file
 command_outcome card (Update offset bytes) = on_selected card card.selected
     (λ file. update_outcome card file offset bytes.items)
 
+-- what comes of bytes that were read as a command; where they are none, the status that says why
 abbrev pub outcome_from : CardState → Result Command ℕ → Outcome
 outcome_from card (Ok command) = command_outcome card command
 outcome_from card (Err status) = refused status card
@@ -139,16 +143,19 @@ effect_needs_sizes nothing = false
 effect_needs_sizes (gives file offset len) = is_application file
 effect_needs_sizes (puts place bytes) = false
 
+-- a command needs the sizes of the files
 abbrev pub needs_sizes : CardState → Command → Bool
 needs_sizes card Application = false
 needs_sizes card (Select fid) = not (is_fixed fid || fid.0 == 0x3F00 || fid.0 == 0x0500)
 needs_sizes card (Read offset len) = effect_needs_sizes (command_outcome card (Read offset len)).effect
 needs_sizes card (Update offset bytes) = false
 
+-- the same of what bytes were read as; what is no command needs none
 abbrev pub result_needs_sizes : CardState → Result Command ℕ → Bool
 result_needs_sizes card (Ok command) = needs_sizes card command
 result_needs_sizes card (Err status) = false
 
+-- the same of the bytes themselves
 abbrev pub bytes_need_sizes : CardState → List ℕ → Bool
 bytes_need_sizes card b = result_needs_sizes card (command_of b)
 

@@ -1,3 +1,4 @@
+//! The commands of a card, and what it goes by when it answers one (Annex IB, Appendix 2, section 3.6).
 use crate::{Fid, Range};
 use arrayvec::ArrayVec;
 

@@ -35,6 +35,7 @@ abbrev pub AreStrict : List ℕ → Type 0
 AreStrict [] = ⊥
 AreStrict (w ∷ ws) = (word_minute w ≡ 0) × Increase 0 ws
 
+-- a day with one word more, behind all others
 abbrev pub with_word : ℕ → Day → Day
 with_word w d = record d { words = d.words ++ w ∷ [] }
 
@@ -42,6 +43,7 @@ with_word w d = record d { words = d.words ++ w ∷ [] }
 abbrev pub TakesWord : ℕ → Day → Type 0
 TakesWord w d = AreStrict (d.words ++ w ∷ [])
 
+-- a day with this distance
 abbrev pub with_km : ℕ → Day → Day
 with_km km d = record d { km = km }
 
@@ -81,6 +83,7 @@ abbrev pub early : ℕ → List ℕ → List ℕ
 early minute [] = []
 early minute (w ∷ ws) = if nat_le (word_minute w) minute then w ∷ early minute ws else []
 
+-- a day with its words up to a minute of the day
 abbrev pub with_early : ℕ → Day → Day
 with_early minute d = record d { words = early minute d.words }
 

@@ -13,6 +13,7 @@ pub record Check : Type 0 where
   pub passes : Bool
   pub place : ℕ
 
+-- the check that tells this place where it fails
 abbrev pub check : Bool → ℕ → Check
 check passes place = record { passes = passes; place = place }
 
@@ -21,6 +22,7 @@ abbrev pub first_failing : List Check → Option ℕ
 first_failing [] = None
 first_failing (c ∷ cs) = if c.passes then first_failing cs else Some c.place
 
+-- a pointer is even and lies in the string
 abbrev pub is_pointer : (size p : ℕ) → Bool
 is_pointer size p = nat_lt p size && nat_eq (p % 2) 0
 

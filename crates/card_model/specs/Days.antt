@@ -14,6 +14,7 @@ pub record Day : Type 0 where
 abbrev pub len_of : Day → ℕ
 len_of d = 12 + 2 * length d.words
 
+-- how many bytes the records of days have
 abbrev pub total : List Day → ℕ
 total [] = 0
 total (d ∷ ds) = len_of d + total ds
@@ -30,6 +31,7 @@ last_len [] = 0
 last_len (d ∷ []) = len_of d
 last_len (d ∷ e ∷ ds) = last_len (e ∷ ds)
 
+-- words in bytes, two for each
 abbrev pub word_bytes : List ℕ → List ℕ
 word_bytes [] = []
 word_bytes (w ∷ ws) = w / 256 ∷ w % 256 ∷ word_bytes ws

@@ -22,12 +22,15 @@ pub record IsStringShape (r : StringShape) : Type 0 where
 abbrev pub turned : ℕ → List ℕ → List ℕ
 turned place circle = drop place circle ++ take place circle
 
+-- the pointer to the oldest day
 abbrev pub oldest_pointer : StringShape → List ℕ → ℕ
 oldest_pointer r x = number (bytes_at x r.base 2)
 
+-- the pointer to the newest day
 abbrev pub newest_pointer : StringShape → List ℕ → ℕ
 newest_pointer r x = number (bytes_at x (r.base + 2) 2)
 
+-- the bytes of the string, behind both pointers
 abbrev pub string_of : StringShape → List ℕ → List ℕ
 string_of r x = bytes_at x (r.base + 4) r.size
 

@@ -29,13 +29,16 @@ minutes_from f zero t = []
 minutes_from f (suc n) t = elim (f t) as (λ _. List Entry)
     [ Some e ↦ e ∷ minutes_from f n (t + 1) | None ↦ minutes_from f n (t + 1) ]
 
+-- the entries that a day tells, up to the mark
 unfoldable pub day_entries : (mark : ℕ) → Day → List Entry
 day_entries mark d = minutes_from (entry_at mark d) 1440 0
 
+-- the entries that days tell, up to the mark
 abbrev pub entries_up_to : (mark : ℕ) → List Day → List Entry
 entries_up_to mark [] = []
 entries_up_to mark (d ∷ ds) = day_entries mark d ++ entries_up_to mark ds
 
+-- the last of some entries, if there is one
 abbrev pub last_entry : List Entry → Option Entry
 last_entry [] = None
 last_entry (e ∷ []) = Some e

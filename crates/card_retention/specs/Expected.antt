@@ -13,10 +13,12 @@ pub record WordDay : Type 0 where
 abbrev pub size_of : WordDay → ℕ
 size_of d = 12 + 2 * d.words
 
+-- how many bytes the records of days have
 abbrev pub size_all : List WordDay → ℕ
 size_all [] = 0
 size_all (d ∷ ds) = size_of d + size_all ds
 
+-- a day with one word more
 abbrev pub one_more : WordDay → WordDay
 one_more d = record d { words = d.words + 1 }
 
@@ -32,6 +34,7 @@ is_newest day [] = false
 is_newest day (d ∷ []) = nat_eq d.day day
 is_newest day (d ∷ e ∷ ds) = is_newest day (e ∷ ds)
 
+-- two truths are the same
 abbrev pub same_bool : Bool → Bool → Bool
 same_bool true b = b
 same_bool false b = not b
@@ -71,6 +74,7 @@ pub record Counted : Type 0 where
 abbrev pub with_entry : (covered : ℕ) → Counted → Entry → Counted
 with_entry covered c e = record { days = adds c.before e (closes covered c.before e.minute c.days); before = Some e }
 
+-- these entries more, one after the other
 unfoldable pub counted : (covered : ℕ) → Counted → List Entry → Counted
 counted covered start es = fold (with_entry covered) start es
 

@@ -16,6 +16,7 @@ abbrev pub entries_from : ℕ → List Entry → List Entry
 entries_from day [] = []
 entries_from day (e ∷ es) = if nat_le day (e.minute / 1440) then e ∷ entries_from day es else entries_from day es
 
+-- one of these days has this number
 abbrev pub is_day : ℕ → List WordDay → Bool
 is_day day [] = false
 is_day day (d ∷ ds) = nat_eq d.day day || is_day day ds

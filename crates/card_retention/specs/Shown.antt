@@ -12,6 +12,7 @@ use Rattle.card_retention.specs.Expected.{expected_days}
 abbrev pub size_day : Day → WordDay
 size_day d = record { day = d.date / 86400; words = length d.words }
 
+-- the days of a string, each by its number and its words
 abbrev pub sizes : List Day → List WordDay
 sizes days = map size_day days
 
@@ -119,11 +120,12 @@ is_open mark (d ∷ e ∷ ds) = is_open mark (e ∷ ds)
 abbrev pub owing : (next mark : ℕ) → List Day → List WordDay
 owing next mark days = if is_open mark days && nat_lt (suc mark) next then more (sizes days) else sizes days
 
--- the newest day is the entry's, and its latest word tells the entry's state
+-- a day is the entry's, and its latest word tells the entry's state
 pub record TellsIn (e : Entry) (d : Day) : Type 0 where
   pub date : d.date ≡ date_of e.minute
   pub state : last_word d.words / 2048 ≡ entry_state e
 
+-- the newest day of these, which there is, tells an entry so
 abbrev pub Tells : Entry → List Day → Type 0
 Tells e days = OnNewest (TellsIn e) days
 

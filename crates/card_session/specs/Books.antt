@@ -78,22 +78,25 @@ entered_days size e days =
     then (if tells_state e days then days else with_change size (entry_word e) days)
     else with_new_day size e days
 
--- the distance of the newest day, so many km more; it stays at 9999 once there
+-- a distance, so many km more; it stays at 9999 once there
 abbrev pub km_after : ℕ → ℕ → ℕ
 km_after more km = min 9999 (km + more)
 
+-- the days, of which the newest has so many km more
 abbrev pub travelled : ℕ → List Day → List Day
 travelled more days = with_newest (λ d. with_km (km_after more d.km) d) days
 
--- the number behind that of the newest vehicle entry: 1 without one, or where its counter is not decimal
+-- the number behind one that was read as a counter; 1 where that is not decimal
 abbrev pub count_behind : Result Bcd2 BadValue → ℕ
 count_behind (Ok count) = counter_after count.0
 count_behind (Err bad) = 1
 
+-- the number of the next vehicle entry: behind that of the newest one, 1 without one
 abbrev pub next_count : Option Vehicle → ℕ
 next_count None = 1
 next_count (Some v) = count_behind (bcd2_of v.counter)
 
+-- the counter of the next vehicle entry, in two bytes
 abbrev pub vehicle_counter : Option Vehicle → List ℕ
 vehicle_counter newest = bcd2_bytes (record { 0 = next_count newest })
 
@@ -123,17 +126,19 @@ abbrev pub goes_on_with : Registration → (minute : ℕ) → Option Vehicle →
 goes_on_with registration minute None = false
 goes_on_with registration minute (Some v) = goes_on_in registration minute v
 
--- a vehicle entry with another odometer value at its end, and one with another last use
+-- a vehicle entry with another odometer value at its end
 abbrev pub measured : (odometer : ℕ) → Vehicle → Vehicle
 measured odometer v = record v { odometer_end = record { 0 = odometer } }
 
+-- a vehicle entry with another last use
 abbrev pub used : (seconds : ℕ) → Vehicle → Vehicle
 used seconds v = record v { last_use = record { 0 = seconds } }
 
--- the vehicle entries, of which the newest has another odometer value at its end, or another last use
+-- the vehicle entries, of which the newest has another odometer value at its end
 abbrev pub measured_to : (odometer : ℕ) → Vehicles → Vehicles
 measured_to odometer v = renewed (measured odometer) v
 
+-- the vehicle entries, of which the newest has another last use
 abbrev pub last_used : (seconds : ℕ) → Vehicles → Vehicles
 last_used seconds v = renewed (used seconds) v
 

@@ -72,9 +72,11 @@ IsBeforeWordAt minute b = EndsStrictly b.days × (newest_word b.days < minute)
 abbrev pub BeginsFrom : (minute w : ℕ) → Book → Type 0
 BeginsFrom minute w b = IsNext b.days (date_of minute) (words_from minute w)
 
+-- the book with that day
 abbrev pub with_day_in : (size minute w : ℕ) → Book → Book
 with_day_in size minute w b = record { days = with_day_from size minute w b.days; vehicles = b.vehicles }
 
+-- a moment of it: the oldest days go as they must, or it is there
 abbrev pub IsBeforeDayFrom : (size minute w : ℕ) → Book → List Day → Vehicles → Type 0
 IsBeforeDayFrom size minute w b days vehicles =
     (Remain (size - (12 + 2 * length (words_from minute w))) b.days days ⊎ (days ≡ with_day_from size minute w b.days))

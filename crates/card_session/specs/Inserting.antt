@@ -57,6 +57,12 @@ lacked mark (e ∷ es) = if nat_lt mark e.minute then e ∷ es else lacked mark 
 abbrev pub replayed_count : (session mark : ℕ) → List Entry → ℕ
 replayed_count session mark owed = if nat_eq session 0 then 0 else length (lacked mark owed)
 
+-- so many of the owed entries were replayed: those that a card with this session time and this end mark lacks, which are
+-- no more than are owed
+pub record Replays (session mark : ℕ) (owed : List Entry) (n : ℕ) : Type 0 where
+  pub few : n ≤ length owed
+  pub count : n ≡ replayed_count session mark owed
+
 -- ---- of the days and the vehicle entries
 
 -- THE CUT behind the end mark
@@ -94,6 +100,7 @@ abbrev pub repaired : (size : ℕ) → Registration → (odometer : ℕ) → (ow
 repaired size registration odometer owed b = with_owed size registration odometer (lacked (mark_of b) owed)
     (with_cut (mark_of b) b)
 
+-- a moment of it: of the cut, or of the entries
 abbrev pub IsRepairMoment : (size : ℕ) → Registration → (odometer : ℕ) → (owed : List Entry) → Book → List Day
     → Vehicles → Type 0
 IsRepairMoment size registration odometer owed b days vehicles =
@@ -114,10 +121,12 @@ During R S R' x c = R x c ⊎ Both S R' x c
 abbrev pub IsStill : Application → List ℕ → List ℕ → Type 0
 IsStill app x c = IsCard app (IsBook (book_of app x)) x c
 
+-- the card is repaired
 abbrev pub IsRepaired : Application → Registration → (odometer : ℕ) → (owed : List Entry) → List ℕ → List ℕ → Type 0
 IsRepaired app registration odometer owed x y = IsCard app
     (IsBook (repaired app.activity registration odometer owed (book_of app x))) x y
 
+-- a moment at which it is repaired
 abbrev pub IsRepairing : Application → Registration → (odometer : ℕ) → (owed : List Entry) → List ℕ → List ℕ → Type 0
 IsRepairing app registration odometer owed x c = IsCard app
     (IsRepairMoment app.activity registration odometer owed (book_of app x)) x c
@@ -132,14 +141,16 @@ unclosed current now = record {
   registration = current.registration;
 }
 
--- it is noted unless one with that begin is there
+-- an event with that begin is there
 abbrev pub HoldsUnclosed : Application → List ℕ → Type 0
 HoldsUnclosed app x = HoldsEvent app 6 (session_time app x) x
 
+-- the event is noted, unless one with that begin is there
 abbrev pub IsNoted : Application → (now : ℕ) → List ℕ → List ℕ → Type 0
 IsNoted app now x y = (HoldsUnclosed app x × (y ≡ x))
     ⊎ ((HoldsUnclosed app x → ⊥) × IsEventNoted app (unclosed (current_use app x) now) x y)
 
+-- a moment at which the event is noted
 abbrev pub IsNoting : Application → (now : ℕ) → List ℕ → List ℕ → Type 0
 IsNoting app now x c = (HoldsUnclosed app x → ⊥) × IsNotingEvent app (unclosed (current_use app x) now) x c
 
@@ -147,17 +158,19 @@ IsNoting app now x c = (HoldsUnclosed app x → ⊥) × IsNotingEvent app (unclo
 abbrev pub MayShut : Book → Type 0
 MayShut b = IsOpenBook b × (mark_of b < LATEST_MINUTE)
 
--- the closing word, rest, and the end mark at it
+-- a card is closed: by the closing word, rest, and the end mark at it
 abbrev pub IsShut : Application → List ℕ → List ℕ → Type 0
 IsShut app x y = IsCard app (IsBook (closed app.activity Rest (book_of app x))) x y
 
+-- a moment at which it is closed so
 abbrev pub IsShutting : Application → List ℕ → List ℕ → Type 0
 IsShutting app x c = IsCard app (IsCloseMoment app.activity Rest (book_of app x)) x c
 
--- the session time, at the front of its file, and the registration behind it
+-- the session time, at the front of its file
 abbrev pub timed : Application → (seconds : ℕ) → List ℕ → List ℕ
 timed app seconds x = put (place_of app (file 0x0507)) (time_bytes (record { 0 = seconds })) x
 
+-- the registration, behind the session time
 abbrev pub registered : Application → Registration → List ℕ → List ℕ
 registered app registration x = put (place_of app (file 0x0507) + 4) registration.0 x
 
@@ -165,6 +178,7 @@ registered app registration x = put (place_of app (file 0x0507) + 4) registratio
 abbrev pub IsEnded : Application → List ℕ → List ℕ → Type 0
 IsEnded app x y = y ≡ timed app 0 x
 
+-- a moment of it: the session time is the old one, or 0
 abbrev pub IsEnding : Application → List ℕ → List ℕ → Type 0
 IsEnding app x c = (c ≡ x) ⊎ IsEnded app x c
 
@@ -172,6 +186,7 @@ IsEnding app x c = (c ≡ x) ⊎ IsEnded app x c
 abbrev pub IsOpened : Application → Registration → (now : ℕ) → List ℕ → List ℕ → Type 0
 IsOpened app registration now x y = y ≡ timed app now (registered app registration x)
 
+-- a moment of it: some of the registration is there, all of it, or the session time too
 abbrev pub IsOpening : Application → Registration → (now : ℕ) → List ℕ → List ℕ → Type 0
 IsOpening app registration now x c =
     IsPartlyWritten (place_of app (file 0x0507) + 4) registration.0 x c
@@ -193,6 +208,7 @@ IsSessionMended s next current odometer owed now x y = Mends s current x
     → Both (IsStill s.application) (Both (IsRepaired s.application s.registration odometer owed)
     (IsNoted s.application now)) x y × KnowsCard next y × MayShut (book_of next.application y)
 
+-- a moment of this repair and of the noting of the event
 abbrev pub IsMendMoment : Session → CurrentUse → (odometer : ℕ) → (owed : List Entry) → (now : ℕ) → List ℕ → List ℕ
     → Type 0
 IsMendMoment s current odometer owed now x c = Mends s current x
@@ -206,6 +222,7 @@ abbrev pub IsShutThen : (s next : Session) → (S : List ℕ → List ℕ → Ty
 IsShutThen s next S x y = KnowsCard s x → MayShut (book_of s.application x)
     → Both (IsShut s.application) S x y × KnowsCard next y × IsOpenBook (book_of next.application y)
 
+-- a moment of it: of the closing word, or of what is done then
 abbrev pub IsShutThenMoment : Session → (R : List ℕ → List ℕ → Type 0) → List ℕ → List ℕ → Type 0
 IsShutThenMoment s R x c = KnowsCard s x → MayShut (book_of s.application x)
     → During (IsShutting s.application) (IsShut s.application) R x c
@@ -214,6 +231,7 @@ IsShutThenMoment s R x c = KnowsCard s x → MayShut (book_of s.application x)
 abbrev pub IsReopened : Application → Registration → (now : ℕ) → List ℕ → List ℕ → Type 0
 IsReopened app registration now = Both (IsEnded app) (IsOpened app registration now)
 
+-- a moment of this end, or of the opening
 abbrev pub IsReopening : Application → Registration → (now : ℕ) → List ℕ → List ℕ → Type 0
 IsReopening app registration now = During (IsEnding app) (IsEnded app) (IsOpening app registration now)
 
@@ -223,6 +241,7 @@ IsStarted s next now x y = KnowsCard s x → MayShut (book_of s.application x)
     → Both (IsStill s.application) (Both (IsShut s.application) (IsOpened s.application s.registration now)) x y
     × KnowsCard next y × IsOpenBook (book_of next.application y)
 
+-- a moment of this start
 abbrev pub IsStartMoment : Session → (now : ℕ) → List ℕ → List ℕ → Type 0
 IsStartMoment s now x c = KnowsCard s x → MayShut (book_of s.application x)
     → During (IsStill s.application) (IsStill s.application)
@@ -234,6 +253,7 @@ IsStartMoment s now x c = KnowsCard s x → MayShut (book_of s.application x)
 abbrev pub InsertsClosed : Application → Registration → (now : ℕ) → List ℕ → List ℕ → Type 0
 InsertsClosed app registration now = Both (IsStill app) (Both (IsShut app) (IsOpened app registration now))
 
+-- a moment of such an insertion
 abbrev pub InsertingClosed : Application → Registration → (now : ℕ) → List ℕ → List ℕ → Type 0
 InsertingClosed app registration now = During (IsStill app) (IsStill app)
     (During (IsShutting app) (IsShut app) (IsOpening app registration now))
@@ -245,6 +265,7 @@ InsertsOpen app registration odometer owed now =
     Both (IsStill app) (Both (IsRepaired app registration odometer owed)
     (Both (IsNoted app now) (Both (IsShut app) (Both (IsEnded app) (IsOpened app registration now)))))
 
+-- a moment of such an insertion, whose steps come in this order
 abbrev pub InsertingOpen : Application → Registration → (odometer : ℕ) → (owed : List Entry) → (now : ℕ) → List ℕ
     → List ℕ → Type 0
 InsertingOpen app registration odometer owed now =
@@ -275,11 +296,13 @@ pub record Takes (s : Session) (current : CurrentUse) (x : List ℕ) : Type 0 wh
   pub ready : session_time s.application x ≡ 0 → IsOpenBook (book_of s.application x)
   pub strict : session_time s.application x ≢ 0 → EndsCut (book_of s.application x)
 
+-- it is inserted, and the next session is the card's
 abbrev pub IsTaken : (s next : Session) → CurrentUse → (odometer : ℕ) → (owed : List Entry) → (now : ℕ) → List ℕ
     → List ℕ → Type 0
 IsTaken s next current odometer owed now x y = Takes s current x
     → IsCardInserted s.application s.registration odometer owed now x y × IsSession next y
 
+-- a moment at which it is inserted
 abbrev pub IsTaking : Session → CurrentUse → (odometer : ℕ) → (owed : List Entry) → (now : ℕ) → List ℕ → List ℕ → Type 0
 IsTaking s current odometer owed now x c = Takes s current x
     → IsCardInserting s.application s.registration odometer owed now x c

@@ -46,10 +46,12 @@ pub record HasSame (s next : Session) : Type 0 where
 abbrev pub TakesSome : Option ℕ → Book → Type 0
 TakesSome word b = IfSome word (λ w. OnNewest (TakesWord w) b.days)
 
+-- the book with that word
 abbrev pub with_some : (size : ℕ) → Option ℕ → Book → Book
 with_some size None b = b
 with_some size (Some w) b = record { days = with_change size w b.days; vehicles = b.vehicles }
 
+-- a moment of it: the oldest days go as they must, or the word is there
 abbrev pub IsAdding : (size : ℕ) → Option ℕ → Book → List Day → Vehicles → Type 0
 IsAdding size None b days vehicles = (days ≡ b.days) × (vehicles ≡ b.vehicles)
 IsAdding size (Some w) b days vehicles = (Remain (size - 2) b.days days ⊎ (days ≡ with_change size w b.days))
@@ -59,9 +61,11 @@ IsAdding size (Some w) b days vehicles = (Remain (size - 2) b.days days ⊎ (day
 abbrev pub IsBeforeGapOf : (minute : ℕ) → Book → Type 0
 IsBeforeGapOf minute b = IsOpenBook b × (newest_in b < minute)
 
+-- the book whose gap is closed
 abbrev pub with_gap_closed : (size minute : ℕ) → Book → Book
 with_gap_closed size minute b = record { days = gap_closed size (mark_of b) minute b.days; vehicles = b.vehicles }
 
+-- a moment of it: the days are before it, or the gap is closed
 abbrev pub IsClosingGap : (size minute : ℕ) → Book → List Day → Vehicles → Type 0
 IsClosingGap size minute b days vehicles = (IsBeforeGap size (mark_of b) minute b.days days
     ⊎ (days ≡ gap_closed size (mark_of b) minute b.days)) × (vehicles ≡ b.vehicles)
@@ -70,9 +74,11 @@ IsClosingGap size minute b days vehicles = (IsBeforeGap size (mark_of b) minute 
 abbrev pub BeginsDay : Entry → Book → Type 0
 BeginsDay e b = IsNext b.days (date_of e.minute) (day_words e)
 
+-- the book with that day
 abbrev pub with_day : (size : ℕ) → Entry → Book → Book
 with_day size e b = record { days = with_new_day size e b.days; vehicles = b.vehicles }
 
+-- a moment of it: the oldest days go as they must, or it is there
 abbrev pub IsBeforeDay : (size : ℕ) → Entry → Book → List Day → Vehicles → Type 0
 IsBeforeDay size e b days vehicles = (Remain (size - (12 + 2 * length (day_words e))) b.days days
     ⊎ (days ≡ with_new_day size e b.days)) × (vehicles ≡ b.vehicles)
@@ -81,27 +87,32 @@ IsBeforeDay size e b days vehicles = (Remain (size - (12 + 2 * length (day_words
 abbrev pub IsBeforeEntry : Entry → Book → Type 0
 IsBeforeEntry e b = EndsStrictly b.days × (newest_word b.days < e.minute)
 
+-- the book with these words
 abbrev pub with_entry_words : (size : ℕ) → Entry → Book → Book
 with_entry_words size e b = record { days = entered_days size e b.days; vehicles = b.vehicles }
 
+-- a moment of it: the days are before these words, or have them
 abbrev pub IsWriting : (size : ℕ) → Entry → Book → List Day → Vehicles → Type 0
 IsWriting size e b days vehicles = (IsBeforeWords size e b.days days ⊎ (days ≡ entered_days size e b.days))
     × (vehicles ≡ b.vehicles)
 
--- THE DISTANCE of the newest day
+-- THE DISTANCE of the newest day, which there is
 abbrev pub HasDay : Book → Type 0
 HasDay b = b.days ≢ []
 
+-- the book whose newest day has so many km more
 abbrev pub with_more : (km : ℕ) → Book → Book
 with_more km b = record { days = travelled km b.days; vehicles = b.vehicles }
 
+-- a moment of it: the distance is the old one, or the new one
 abbrev pub IsTravelling : (km : ℕ) → Book → List Day → Vehicles → Type 0
 IsTravelling km b days vehicles = ((days ≡ b.days) ⊎ (days ≡ travelled km b.days)) × (vehicles ≡ b.vehicles)
 
--- THE USE OF THE VEHICLE
+-- THE USE OF THE VEHICLE: it asks nothing of the book
 abbrev pub AnyBook : Book → Type 0
 AnyBook b = Unit {0}
 
+-- the book with a use of this vehicle at this minute
 abbrev pub with_use : Registration → (odometer minute : ℕ) → Book → Book
 with_use registration odometer minute b = record {
   days = b.days;
@@ -109,19 +120,22 @@ with_use registration odometer minute b = record {
       b.vehicles;
 }
 
+-- a moment of it: the vehicle entries are before the use, or have it
 abbrev pub IsUsing : Registration → (odometer minute : ℕ) → Book → List Day → Vehicles → Type 0
 IsUsing registration odometer minute b days vehicles =
     (days ≡ b.days) × (IsBeforeUse registration odometer minute b.vehicles vehicles
     ⊎ (vehicles ≡ vehicles_with registration odometer minute b.vehicles))
 
--- one of its fields: the odometer value at its end, or the last use
+-- the book whose newest vehicle entry has this odometer value at its end
 abbrev pub with_measured : (odometer : ℕ) → Book → Book
 with_measured odometer b = record { days = b.days; vehicles = measured_to odometer b.vehicles }
 
+-- a moment at which the odometer value is written
 abbrev pub IsSettingOdometer : (odometer : ℕ) → Book → List Day → Vehicles → Type 0
 IsSettingOdometer odometer b days vehicles = (days ≡ b.days)
     × ((vehicles ≡ b.vehicles) ⊎ (vehicles ≡ measured_to odometer b.vehicles))
 
+-- the book whose newest vehicle entry has this last use
 abbrev pub with_last_use : (seconds : ℕ) → Book → Book
 with_last_use seconds b = record { days = b.days; vehicles = last_used seconds b.vehicles }
 
@@ -129,11 +143,12 @@ with_last_use seconds b = record { days = b.days; vehicles = last_used seconds b
 abbrev pub used_session : (seconds : ℕ) → Session → Session
 used_session seconds s = record s { vehicle = option_map (used seconds) s.vehicle }
 
+-- a moment at which the last use is written
 abbrev pub IsSettingUse : (seconds : ℕ) → Book → List Day → Vehicles → Type 0
 IsSettingUse seconds b days vehicles = (days ≡ b.days)
     × ((vehicles ≡ b.vehicles) ⊎ (vehicles ≡ last_used seconds b.vehicles))
 
--- or a new one
+-- the book with a vehicle entry more, which begins here
 abbrev pub with_new_use : Registration → (odometer minute : ℕ) → Book → Book
 with_new_use registration odometer minute b =
     record {
@@ -142,6 +157,7 @@ with_new_use registration odometer minute b =
           (begun_vehicle registration odometer minute (vehicle_counter b.vehicles.newest)) b.vehicles;
     }
 
+-- a moment of it: the vehicle entries are the old ones, have room for the new one, or have it
 abbrev pub IsAddingUse : Registration → (odometer minute : ℕ) → Book → List Day → Vehicles → Type 0
 IsAddingUse registration odometer minute b days vehicles =
     (days ≡ b.days)

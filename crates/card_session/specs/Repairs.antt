@@ -23,11 +23,12 @@ abbrev pub mark_behind : (mark : ℕ) → List Entry → ℕ
 mark_behind mark [] = mark
 mark_behind mark (e ∷ es) = mark_behind e.minute es
 
--- with some entries more
+-- the bound with some entries more
 abbrev pub and_entries : Bound → List Entry → Bound
 and_entries slack [] = slack
 and_entries slack (e ∷ es) = and_entries (and_entry slack e) es
 
+-- the count with some entries more
 abbrev pub with_entries : (covered : ℕ) → Counted → List Entry → Counted
 with_entries covered c [] = c
 with_entries covered c (e ∷ es) = with_entries covered (with_entry covered c e) es
@@ -73,6 +74,7 @@ pub record HasShown (mark : ℕ) (all es : List Entry) (now : ℕ) (days : List 
   pub behind : now ≡ mark_behind mark done
   pub shows : entries_up_to now days ≡ entries_in (sizes days) (all ++ done)
 
+-- a card shows, behind the entries of before, the first of those that another lacked
 abbrev pub ShowsMore : Application → (all owed : List Entry) → List ℕ → List ℕ → Type 0
 ShowsMore app all owed x y = HasShown (end_mark app x) all (lacked_by app x owed) (end_mark app y) (card_days app y)
 

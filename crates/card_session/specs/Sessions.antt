@@ -17,6 +17,8 @@ use Rattle.card_session.specs.declared.words.TheConstants.{LATEST_MINUTE}
 use Rattle.card_session.specs.Vehicles.{vehicles_of}
 use Rattle.card_session.specs.Books.{Book, mark_of}
 
+-- WHAT A SESSION KEEPS of its card: the sizes, what is known of the days and of the vehicle entries, the registration
+-- of the vehicle, the newest minute and the odometer value
 pub record Session : Type 0 where
   pub application : Application
   pub days : Held

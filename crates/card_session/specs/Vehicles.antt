@@ -13,14 +13,16 @@ pub record Vehicles : Type 0 where
   pub newest : Option Vehicle
   pub ring : List (Option Vehicle)
 
--- what stands at a place of an image's ring, and all of them
+-- what stands at a place of an image's ring
 abbrev pub standing_at : Application → List ℕ → ℕ → Option Vehicle
 standing_at app x i = if is_there (vehicle_ring app) x i then Some (vehicle_of (entry_at (vehicle_ring app) x i))
     else None
 
+-- what stands at each of its places, from the one that the next entry takes on
 unfoldable pub ring_round : Application → List ℕ → List (Option Vehicle)
 ring_round app x = map (standing_at app x) (order (vehicle_ring app) (taken (vehicle_ring app) x))
 
+-- the vehicle entries of an image
 abbrev pub vehicles_of : Application → List ℕ → Vehicles
 vehicles_of app x = record { newest = newest_vehicle app x; ring = ring_round app x }
 
@@ -45,6 +47,7 @@ abbrev pub on_newest : (Vehicle → Vehicle) → List (Option Vehicle) → List 
 on_newest f [] = []
 on_newest f (o ∷ os) = if any_stands os then o ∷ on_newest f os else option_map f o ∷ os
 
+-- the vehicle entries, of which the newest is changed so
 abbrev pub renewed : (Vehicle → Vehicle) → Vehicles → Vehicles
 renewed f v = record { newest = option_map f v.newest; ring = on_newest f v.ring }
 

@@ -23,6 +23,11 @@ use tacho_types::TimeReal;
 impl CardSession {
     /// Writes an entry by hand, which is later than all words of the card and than its end mark. That stays, so no
     /// minute of the card changes: the entry counts once the end mark is moved behind it.
+    ///
+    /// # Errors
+    ///
+    /// `Failed` where a call on the card failed: the entry may stand behind the end mark, and the next insertion cuts
+    /// it off.
     pub fn enter_by_hand<M: Medium>(&mut self, port: &mut M, entry: &Manual) -> Result<(), Failed>
         requires card { MayKeep self.old.application (M.state port.old) }
         requires later { self.old.minute < entry.now.minute }
@@ -42,7 +47,7 @@ impl CardSession {
         Ok(())
     }
 
-    // Writes its word: on the newest day, or with its day.
+    /// Writes its word: on the newest day, or with its day.
     fn write_by_hand<M: Medium>(&mut self, port: &mut M, entry: &Manual) -> Result<(), Failed>
         requires card { MayKeep self.old.application (M.state port.old) }
         requires first { 1440 ≤ entry.now.minute }
@@ -66,7 +71,7 @@ impl CardSession {
         }
     }
 
-    // Adds its word to the newest day.
+    /// Adds its word to the newest day.
     fn append_by_hand<M: Medium>(&mut self, port: &mut M, entry: &Manual) -> Result<(), Failed>
         requires card { MayKeep self.old.application (M.state port.old) }
         ensures same { HasSame self.old self.new }
@@ -82,7 +87,7 @@ impl CardSession {
         self.days.add_change(port, manual_word(entry))
     }
 
-    // Begins its day with it.
+    /// Begins its day with it.
     fn begin_by_hand<M: Medium>(&mut self, port: &mut M, entry: &Manual) -> Result<(), Failed>
         requires card { MayKeep self.old.application (M.state port.old) }
         requires last { entry.now.minute ≤ LATEST_MINUTE }

@@ -22,7 +22,7 @@ ghost use Rattle.card_session.specs.Parts.{DoesPart, IsPartDone, IsPartMoment, H
 ghost use Rattle.card_session.specs.Inserting.{Follow, MayInsert, lacked, with_cut, IsCutting, with_owed};
 ghost use Rattle.card_session.specs.Inserting.{IsBeforeAll, IsReplaying, MayShut, EndsCut, IsSessionMended};
 ghost use Rattle.card_session.specs.Inserting.{IsMendMoment, IsShutThen, IsShutThenMoment, IsReopened, IsReopening};
-ghost use Rattle.card_session.specs.Inserting.{IsStarted, IsStartMoment, IsTaken, IsTaking, replayed_count, repaired};
+ghost use Rattle.card_session.specs.Inserting.{IsStarted, IsStartMoment, IsTaken, IsTaking, Replays, repaired};
 ghost use Rattle.card_session.specs.Inserting.{IsRepairMoment, IsNoted, IsNoting, timed, registered, IsOpening};
 ghost use Rattle.card_session.specs.Inserting.{CardAccepted, CardMayBePutIn, CardRefused, LeavesInserting, MayBePutIn};
 
@@ -48,7 +48,7 @@ pub struct Inserted {
 const LAST_SESSION_NOT_CLOSED: u8 = 0x06;
 
 impl CardSession {
-    // Ends a drop of the oldest day that was cut short.
+    /// Ends a drop of the oldest day that was cut short.
     fn finish_drop<M: Medium>(&mut self, port: &mut M) -> Result<(), Failed>
         requires card { MayKeep self.old.application (M.state port.old) }
         ensures same { HasSame self.old self.new }
@@ -59,7 +59,7 @@ impl CardSession {
         self.days.finish_drop(port)
     }
 
-    // Cuts the days behind a minute.
+    /// Cuts the days behind a minute.
     fn cut<M: Medium>(&mut self, port: &mut M, minute: u32) -> Result<(), Failed>
         requires card { MayKeep self.old.application (M.state port.old) }
         ensures same { HasSame self.old self.new }
@@ -72,7 +72,7 @@ impl CardSession {
         self.days.trim(port, minute)
     }
 
-    // Replays entries, one after the other.
+    /// Replays entries, one after the other.
     fn replay<M: Medium>(
         &mut self,
         port: &mut M,
@@ -106,8 +106,8 @@ impl CardSession {
         Ok(())
     }
 
-    // Repairs a card whose session was left open: cuts its days at the end mark, and replays the owed entries that it
-    // lacks. It gives their number.
+    /// Repairs a card whose session was left open: cuts its days at the end mark, and replays the owed entries that it
+    /// lacks. It gives their number.
     fn repair<M: Medium>(
         &mut self,
         port: &mut M,
@@ -140,7 +140,7 @@ impl CardSession {
         Ok(lacked.len() as u8)
     }
 
-    // The newest vehicle entry and its index, if there is one.
+    /// The newest vehicle entry and its index, if there is one.
     fn newest_use(&self) -> Option<(u32, Vehicle)>
         ensures newest { IfSome result (λ p. self.now.newest ≡ Some p.0) }
         ensures vehicle { IfSome result (λ p. self.now.vehicle ≡ Some p.1) }
@@ -151,7 +151,7 @@ impl CardSession {
         Some((index, vehicle))
     }
 
-    // Writes the closing word, rest, and the end mark at it, where the word is to be written.
+    /// Writes the closing word, rest, and the end mark at it, where the word is to be written.
     fn shut<M: Medium>(&mut self, port: &mut M) -> Result<(), Failed>
         requires card { MayKeep self.old.application (M.state port.old) }
         ensures value { IsValue self.old }
@@ -178,7 +178,7 @@ impl CardSession {
         }
     }
 
-    // Writes the session time.
+    /// Writes the session time.
     fn set_session<M: Medium>(&self, port: &mut M, seconds: u32) -> Result<(), Failed>
         requires card { MayInsert self.now.application (M.state port.old) }
         ensures written { OnOk result ((M.state port.new).image ≡ option_map (timed self.now.application seconds)
@@ -195,7 +195,7 @@ impl CardSession {
         port.write_at(session_place(&self.application), &bytes)
     }
 
-    // Writes the registration of the vehicle, behind the session time.
+    /// Writes the registration of the vehicle, behind the session time.
     fn set_registration<M: Medium>(&self, port: &mut M) -> Result<(), Failed>
         requires card { MayInsert self.now.application (M.state port.old) }
         ensures written { OnOk result ((M.state port.new).image ≡ option_map
@@ -213,7 +213,7 @@ impl CardSession {
         port.write_at(place, &bytes)
     }
 
-    // Opens the session: the registration, and behind it the session time, which is the commit.
+    /// Opens the session: the registration, and behind it the session time, which is the commit.
     fn open<M: Medium>(&self, port: &mut M, now: TimeReal) -> Result<(), Failed>
         requires card { MayInsert self.now.application (M.state port.old) }
         ensures written { OnOk result ((M.state port.new).image ≡ option_map
@@ -231,8 +231,8 @@ impl CardSession {
         self.set_session(port, now.0)
     }
 
-    // Ends a drop that was cut short, repairs a card whose session was left open, of which this was the current use,
-    // and notes the event. It gives the number of the entries that were replayed.
+    /// Ends a drop that was cut short, repairs a card whose session was left open, of which this was the current use,
+    /// and notes the event. It gives the number of the entries that were replayed.
     fn mend<M: Medium>(
         &mut self,
         port: &mut M,
@@ -261,7 +261,7 @@ impl CardSession {
         Ok(replayed)
     }
 
-    // Closes the words of a card that is repaired, ends the session that was left open, and opens the new one.
+    /// Closes the words of a card that is repaired, ends the session that was left open, and opens the new one.
     fn renew<M: Medium>(&mut self, port: &mut M, now: TimeReal) -> Result<(), Failed>
         requires card { MayInsert self.old.application (M.state port.old) }
         ensures same { (self.new.application ≡ self.old.application) × (self.new.registration ≡ self.old.registration)
@@ -278,7 +278,7 @@ impl CardSession {
         self.open(port, now)
     }
 
-    // Closes the words of a card without a session, and opens one.
+    /// Closes the words of a card without a session, and opens one.
     fn start<M: Medium>(&mut self, port: &mut M, now: TimeReal) -> Result<(), Failed>
         requires card { MayInsert self.old.application (M.state port.old) }
         ensures same { (self.new.application ≡ self.old.application) × (self.new.registration ≡ self.old.registration)
@@ -294,8 +294,8 @@ impl CardSession {
         self.open(port, now)
     }
 
-    // Repairs a card of this current use where its session was left open, and opens a session. It gives the number of
-    // the entries that were replayed.
+    /// Repairs a card of this current use where its session was left open, and opens a session. It gives the number of
+    /// the entries that were replayed.
     fn take_over<M: Medium>(
         &mut self,
         port: &mut M,
@@ -314,9 +314,8 @@ impl CardSession {
         ensures part { DoesPart (M.state port.old) (M.state port.new) (is_err result)
             (IsTaken self.old self.new current.now odometer.0 owed.now now.0)
             (IsTaking self.old current.now odometer.0 owed.now now.0) }
-        ensures few { IfOk result (λ n. n ≤ length owed.now) }
-        ensures count { IfOk result (λ n. n
-            ≡ replayed_count current.now.session.0 (last_use_of self.old.vehicle / 60) owed.now) }
+        ensures replays { IfOk result
+            (Replays current.now.session.0 (last_use_of self.old.vehicle / 60) owed.now) }
         ensures settled { OnOk result ((M.state port.new).clock < last_count → IsSettled (M.state port.new)) }
         ensures called { HasCause (M.state port.old) (M.state port.new) (is_err result) }
         ensures most { (M.state port.new).clock ≤ (M.state port.old).clock + (DAYS_MOST + 84) }
@@ -332,7 +331,7 @@ impl CardSession {
         Ok(replayed)
     }
 
-    // Takes the newest minute anew, of the days and the vehicle as they are.
+    /// Takes the newest minute anew, of the days and the vehicle as they are.
     fn recount(&mut self)
         ensures same { (self.new.application ≡ self.old.application) × (self.new.registration ≡ self.old.registration)
             × (self.new.odometer ≡ self.old.odometer) }
@@ -388,7 +387,7 @@ impl CardSession {
     }
 }
 
-// The second of the newest word that a string's tail tells, or the last one that a time can name.
+/// The second of the newest word that a string's tail tells, or the last one that a time can name.
 fn word_second(tail: Option<Tail>) -> u32
     ensures { result ≡ min 4294967295 (60 * minute_told tail) }
 {
@@ -401,8 +400,8 @@ fn word_second(tail: Option<Tail>) -> u32
     }
 }
 
-// No second before this one may be recorded on a card: when its newest vehicle was last used, or, where no session is
-// open, its newest word's if that is later.
+/// No second before this one may be recorded on a card: when its newest vehicle was last used, or, where no session is
+/// open, its newest word's if that is later.
 fn stored(judged: &Judged) -> u32
     ensures stored { (app : Application) (x : List ℕ) → IsKnown app x judged.now → result ≡ (card_view app x).stored }
     ensures used { last_use_of judged.now.vehicle ≤ result }
@@ -414,7 +413,7 @@ fn stored(judged: &Judged) -> u32
     used.max(word_second(judged.days.tail()))
 }
 
-// The owed entries that a card with this end mark lacks.
+/// The owed entries that a card with this end mark lacks.
 fn lacked(owed: &[Entry], mark: u32) -> &[Entry]
     ensures { result.now ≡ lacked mark owed.now }
 {
@@ -426,7 +425,7 @@ fn lacked(owed: &[Entry], mark: u32) -> &[Entry]
     &owed[owed.len()..]
 }
 
-// Notes the event of a session that was not closed, of which this was the current use, unless it is there.
+/// Notes the event of a session that was not closed, of which this was the current use, unless it is there.
 fn note_unclosed<M: Medium>(
     port: &mut M,
     app: &Application,

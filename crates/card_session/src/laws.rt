@@ -1,3 +1,4 @@
+//! Laws of keeps, withdrawals and insertions: what each of their moments leaves of a card.
 ghost use Rattle.std.specs.Prelude.{◌≡◌, ◌⊎◌, ℕ, suc, ◌*◌, ◌<◌, ◌≤◌, ◌^◌, max, false, Some, List, [], ◌∷◌, ◌++◌};
 ghost use Rattle.std.specs.Prelude.{length, map};
 ghost use Rattle.activity_codec.specs.declared.entries.Entry.{Entry};

@@ -54,9 +54,9 @@ pub struct CardSession {
     pub(crate) newest: Option<u32>,
     pub(crate) vehicle: Option<Vehicle>,
     pub(crate) registration: Registration,
-    // the newest minute of the card
+    /// the newest minute of the card
     pub(crate) minute: u32,
-    // at the session's last keep
+    /// at the session's last keep
     pub(crate) odometer: Option<Odometer>,
 }
 
@@ -148,7 +148,7 @@ impl CardSession {
         self.minute
     }
 
-    // The minute up to which the card's minutes count.
+    /// The minute up to which the card's minutes count.
     pub(crate) fn mark(&self) -> u32
         ensures mark { result ≡ last_use_of self.now.vehicle / 60 }
         ensures most { result ≤ LATEST_MINUTE }
@@ -156,7 +156,7 @@ impl CardSession {
         last_use(&self.vehicle) / MINUTE_SECONDS
     }
 
-    // Adds a word to the newest day, where there is one to be added.
+    /// Adds a word to the newest day, where there is one to be added.
     pub(crate) fn add<M: Medium>(&mut self, port: &mut M, word: Option<u16>) -> Result<(), Failed>
         requires card { MayKeep self.old.application (M.state port.old) }
         ensures same { HasSame self.old self.new }
@@ -176,7 +176,7 @@ impl CardSession {
         }
     }
 
-    // Closes the gap before a minute that does not come at once.
+    /// Closes the gap before a minute that does not come at once.
     fn close_gap<M: Medium>(&mut self, port: &mut M, minute: u32) -> Result<(), Failed>
         requires card { MayKeep self.old.application (M.state port.old) }
         ensures value { IsValue self.old }
@@ -194,7 +194,7 @@ impl CardSession {
         self.add(port, word)
     }
 
-    // Begins the day of an entry.
+    /// Begins the day of an entry.
     fn begin<M: Medium>(&mut self, port: &mut M, entry: &Entry) -> Result<(), Failed>
         requires card { MayKeep self.old.application (M.state port.old) }
         requires last { entry.now.minute ≤ LATEST_MINUTE }
@@ -214,7 +214,7 @@ impl CardSession {
         }
     }
 
-    // Writes an entry's words: none where the newest day tells its state, else one, or a day.
+    /// Writes an entry's words: none where the newest day tells its state, else one, or a day.
     fn write_words<M: Medium>(&mut self, port: &mut M, entry: &Entry) -> Result<(), Failed>
         requires card { MayKeep self.old.application (M.state port.old) }
         requires first { 1440 ≤ entry.now.minute }
@@ -237,7 +237,7 @@ impl CardSession {
         }
     }
 
-    // Adds to the distance of the newest day.
+    /// Adds to the distance of the newest day.
     fn travel<M: Medium>(&mut self, port: &mut M, km: u32) -> Result<(), Failed>
         requires card { MayKeep self.old.application (M.state port.old) }
         requires fits { km < 2 ^ 24 }
@@ -250,7 +250,7 @@ impl CardSession {
         self.days.set_distance(port, km)
     }
 
-    // Writes that the vehicle was used in a minute: the end mark moves to it, and the entry counts.
+    /// Writes that the vehicle was used in a minute: the end mark moves to it, and the entry counts.
     fn note_vehicle<M: Medium>(&mut self, port: &mut M, kept: &Kept) -> Result<(), Failed>
         requires card { MayKeep self.old.application (M.state port.old) }
         requires first { 1 ≤ kept.now.entry.minute }
@@ -271,7 +271,7 @@ impl CardSession {
         }
     }
 
-    // The newest vehicle entry and its index, where it goes on with a minute.
+    /// The newest vehicle entry and its index, where it goes on with a minute.
     fn going_on(&self, minute: u32) -> Option<(u32, Vehicle)>
         ensures newest { IfSome result (λ p. self.now.newest ≡ Some p.0) }
         ensures vehicle { IfSome result (λ p. self.now.vehicle ≡ Some p.1) }
@@ -288,7 +288,7 @@ impl CardSession {
         }
     }
 
-    // The newest vehicle entry, which has this index, goes on.
+    /// The newest vehicle entry, which has this index, goes on.
     fn use_on<M: Medium>(
         &mut self,
         port: &mut M,
@@ -316,7 +316,7 @@ impl CardSession {
         self.set_last_use(port, index, vehicle, MINUTE_SECONDS * kept.entry.minute)
     }
 
-    // Writes the odometer value at the end of the newest vehicle entry, which has this index.
+    /// Writes the odometer value at the end of the newest vehicle entry, which has this index.
     fn set_odometer<M: Medium>(
         &mut self,
         port: &mut M,
@@ -344,7 +344,7 @@ impl CardSession {
         Ok(())
     }
 
-    // Writes the last use of the newest vehicle entry, which has this index.
+    /// Writes the last use of the newest vehicle entry, which has this index.
     pub(crate) fn set_last_use<M: Medium>(
         &mut self,
         port: &mut M,
@@ -372,7 +372,7 @@ impl CardSession {
         Ok(())
     }
 
-    // A new vehicle entry.
+    /// A new vehicle entry.
     fn use_new<M: Medium>(&mut self, port: &mut M, kept: &Kept) -> Result<(), Failed>
         requires card { MayKeep self.old.application (M.state port.old) }
         requires first { 1 ≤ kept.now.entry.minute }
@@ -398,7 +398,7 @@ impl CardSession {
         Ok(())
     }
 
-    // Keeps a minute, so many km behind the one before.
+    /// Keeps a minute, so many km behind the one before.
     pub(crate) fn enter<M: Medium>(
         &mut self,
         port: &mut M,
@@ -430,7 +430,7 @@ impl CardSession {
         self.note_vehicle(port, kept)
     }
 
-    // Writes the closing word, and the end mark at it, where one is to be written.
+    /// Writes the closing word, and the end mark at it, where one is to be written.
     fn close_words<M: Medium>(&mut self, port: &mut M, act: Activity) -> Result<(), Failed>
         requires card { MayKeep self.old.application (M.state port.old) }
         ensures value { IsValue self.old }
@@ -453,7 +453,7 @@ impl CardSession {
         }
     }
 
-    // Writes the last use of the newest vehicle entry, which has this index, where the session ends.
+    /// Writes the last use of the newest vehicle entry, which has this index, where the session ends.
     fn write_last_use<M: Medium>(
         &mut self,
         port: &mut M,
@@ -475,6 +475,10 @@ impl CardSession {
     }
 
     /// Withdraws the card: the closing word with the selected activity, and the end of the session.
+    ///
+    /// # Errors
+    ///
+    /// `Failed` where a call on the card failed: some of this may be written, and the next insertion repairs the card.
     pub fn close<M: Medium>(mut self, port: &mut M, selected: Pick) -> Result<(), Failed>
         requires card { MayClose self.application (M.state port.old) }
         ensures closed { OnOk result (IfSome (M.state port.old).image
@@ -492,6 +496,10 @@ impl CardSession {
 
     /// Keeps a minute on the card: its word where the state is new, the distance, and last the use of the vehicle,
     /// which is the commit.
+    ///
+    /// # Errors
+    ///
+    /// `Failed` where a call on the card failed: some of this may be written, and the next insertion repairs the card.
     pub fn keep<M: Medium>(&mut self, port: &mut M, kept: &Kept) -> Result<(), Failed>
         requires card { MayKeep self.old.application (M.state port.old) }
         requires later { self.old.minute < kept.now.entry.minute }
@@ -515,7 +523,7 @@ impl CardSession {
     }
 }
 
-// Where the session time stands, first in its file.
+/// Where the session time stands, first in its file.
 pub(crate) fn session_place(app: &Application) -> u32
     ensures { result ≡ place_of app.now (file 0x0507) }
 {
@@ -525,7 +533,7 @@ pub(crate) fn session_place(app: &Application) -> u32
     }
 }
 
-// The newest minute of a card: the later of its end mark and of its newest word's minute.
+/// The newest minute of a card: the later of its end mark and of its newest word's minute.
 pub(crate) fn newest_minute(vehicle: &Option<Vehicle>, tail: Option<Tail>) -> u32
     ensures { result ≡ max (last_use_of vehicle.now / 60) (minute_told tail) }
 {
@@ -538,7 +546,7 @@ pub(crate) fn newest_minute(vehicle: &Option<Vehicle>, tail: Option<Tail>) -> u3
     }
 }
 
-// The km since the odometer value before: none where there is no such value.
+/// The km since the odometer value before: none where there is no such value.
 fn grown(before: &Option<Odometer>, now: Odometer) -> u32
     requires { now.0 < 2 ^ 24 }
     ensures km { result ≡ grown before.now now.0 }

@@ -25,10 +25,12 @@ pub record Seats : Type 0 where
   pub driver : Option Seat
   pub codriver : Option Seat
 
+-- what sits in one of the slots
 abbrev pub seat_in : Seats → Slot → Option Seat
 seat_in seats Driver = seats.driver
 seat_in seats CoDriver = seats.codriver
 
+-- the slots, of which one has this
 abbrev pub with_seat : Seats → Slot → Option Seat → Seats
 with_seat seats Driver seat = record seats { driver = seat }
 with_seat seats CoDriver seat = record seats { codriver = seat }
@@ -59,6 +61,7 @@ abbrev pub sitting_of : Option Seat → Option Sitting
 sitting_of None = None
 sitting_of (Some seat) = Some (record { card = seat.card; accepted = seat.newest })
 
+-- both slots so
 abbrev pub logged : Seats → log.Slots
 logged seats = record { driver = sitting_of seats.driver; codriver = sitting_of seats.codriver }
 
@@ -108,6 +111,7 @@ ending left minute seats = record {
   present = record { driver = present_of left minute seats.driver; codriver = present_of left minute seats.codriver };
 }
 
+-- what a call makes of them
 abbrev pub after_call : Table → SlotCall → Table
 after_call t (Put slot card newest) = record
     t { seats = with_seat t.seats slot (Some (record { card = card; newest = newest })) }
@@ -130,6 +134,7 @@ after_call t (EndMinute minute) = record {
   ended = ending (has_left t.left) minute t.seats ∷ t.ended;
 }
 
+-- before the first call
 abbrev pub no_call : Table
 no_call = record { minute = 0; seats = record { driver = None; codriver = None }; left = []; ended = [] }
 

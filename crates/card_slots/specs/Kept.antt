@@ -21,6 +21,7 @@ pub record Kept : Type 0 where
   pub left : Lefts
   pub past : List Ended
 
+-- a minute is told, and is this one
 abbrev pub is_minute : Option ℕ → ℕ → Bool
 is_minute None minute = false
 is_minute (Some left) minute = nat_eq left minute
@@ -39,6 +40,7 @@ with_left minute (Some seat) left = leaves seat.card
     leaves A = record left { a = Some minute }
     leaves B = record left { b = Some minute }
 
+-- what is kept before the first call
 abbrev pub nothing_yet : Kept
 nothing_yet = record {
   minute = 0;
@@ -52,12 +54,14 @@ pub record IsFree (seats : Seats) (slot : Slot) (card : Card) : Type 0 where
   pub here : (seat_in seats slot ≡ None) ⊎ (seat_in seats slot ≡ Some (record { card = card; newest = None }))
   pub elsewhere : is_card (seat_in seats (other_slot slot)) card ≡ false
 
+-- after a card is put into a slot
 abbrev pub put_in : Slot → Card → Option ℕ → Kept → Kept
 put_in slot card newest kept = record kept {
   seats = with_seat kept.seats slot
       (Some (record { card = card; newest = newest }));
 }
 
+-- after the card of a slot is taken out
 abbrev pub taken : Slot → ℕ → Kept → Kept
 taken slot second kept = record {
   minute = second / 60;
@@ -66,6 +70,7 @@ taken slot second kept = record {
   past = kept.past;
 }
 
+-- after power is lost
 abbrev pub cut_off : ℕ → Kept → Kept
 cut_off second kept = record {
   minute = second / 60;
@@ -74,6 +79,7 @@ cut_off second kept = record {
   past = kept.past;
 }
 
+-- after a minute ended
 abbrev pub minute_ended : ℕ → Kept → Kept
 minute_ended minute kept = record {
   minute = minute + 1;

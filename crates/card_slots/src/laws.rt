@@ -1,3 +1,4 @@
+//! Laws of the slots of a unit and those of a run log.
 ghost use Rattle.std.specs.Prelude.{◌≡◌, ℕ, Option, Some, None, option_map};
 ghost use Rattle.activity_codec.specs.declared.values.Slot.{Slot};
 ghost use Rattle.trace_model.specs.declared.Card.{Card};

@@ -65,8 +65,12 @@ impl Slots {
         }
     }
 
-    /// Whether a card may be put into a slot: `Occupied` where that holds a card, else `Elsewhere` where the other slot
-    /// holds this one.
+    /// Whether a card may be put into a slot.
+    ///
+    /// # Errors
+    ///
+    /// 1. `Occupied` where the slot holds a card.
+    /// 2. `Elsewhere` where the other slot holds this one.
     pub fn may_insert(&self, slot: Slot, card: Card) -> Result<(), SlotFault>
         ensures answer { (speed : ℕ) → result_err result ≡ refusal (logged self.now.seats) speed (Insert slot card) }
     {
@@ -79,8 +83,12 @@ impl Slots {
         Ok(())
     }
 
-    /// Whether the card of a slot may be withdrawn at this speed in km/h: `Empty` where there is none, else `Moving`
-    /// where the speed is above 0.
+    /// Whether the card of a slot may be withdrawn at this speed in km/h.
+    ///
+    /// # Errors
+    ///
+    /// 1. `Empty` where the slot holds none.
+    /// 2. `Moving` where the speed is above 0.
     pub fn may_withdraw(&self, slot: Slot, speed: u8) -> Result<(), SlotFault>
         ensures answer { result_err result ≡ refusal (logged self.now.seats) speed (Withdraw slot) }
     {
@@ -93,7 +101,11 @@ impl Slots {
         Ok(())
     }
 
-    /// Whether a slot has a card that can be torn out: `Empty` where it has none.
+    /// Whether a slot has a card that can be torn out.
+    ///
+    /// # Errors
+    ///
+    /// `Empty` where the slot holds none.
     pub fn may_tear(&self, slot: Slot) -> Result<(), SlotFault>
         ensures answer { (speed : ℕ) → result_err result ≡ refusal (logged self.now.seats) speed (Tear slot) }
     {
@@ -104,7 +116,11 @@ impl Slots {
         }
     }
 
-    /// Whether a place can be noted for a slot: `NoCard` where it has no accepted card.
+    /// Whether a place can be noted for a slot.
+    ///
+    /// # Errors
+    ///
+    /// `NoCard` where the slot has no accepted card.
     pub fn may_note(&self, slot: Slot) -> Result<(), SlotFault>
         ensures answer { (speed : ℕ) (ending : Bool) (country region : ℕ)
             → result_err result ≡ refusal (logged self.now.seats) speed (Place slot ending country region) }
@@ -116,8 +132,12 @@ impl Slots {
         }
     }
 
-    /// Whether an entry by hand may be made for a slot at this speed in km/h, by the slots: `NoCard` where it has no
-    /// accepted card, else `Moving` where the speed is above 0.
+    /// Whether an entry by hand may be made for a slot at this speed in km/h, by the slots.
+    ///
+    /// # Errors
+    ///
+    /// 1. `NoCard` where the slot has no accepted card.
+    /// 2. `Moving` where the speed is above 0.
     pub fn may_enter(&self, slot: Slot, speed: u8) -> Result<(), SlotFault>
         ensures answer { (pick : Pick) (minute : ℕ)
             → result_err result ≡ refusal (logged self.now.seats) speed (Manual slot pick minute) }

@@ -47,10 +47,11 @@ pub record BegunOf (size : ℕ) (slack : Bound) (covered from mark : ℕ) (c : C
   pub lists : entries_up_to mark days ≡ entries_in (sizes older) all
   pub empty : entries_in (begun_on (mark / 1440) ∷ []) all ≡ []
 
--- Where a session was broken off.
+-- the same of a card by its image, where a keep was broken off
 abbrev pub Broke : Application → (slack : Bound) → (covered from : ℕ) → Counted → (all : List Entry) → List ℕ → Type 0
 Broke app slack covered from c all x = BrokeOf app.activity slack covered from (end_mark app x) c all (card_days app x)
 
+-- and where that of the first entry was, on the day of the end mark
 abbrev pub Begun : Application → (slack : Bound) → (covered from : ℕ) → Counted → (all : List Entry) → List ℕ → Type 0
 Begun app slack covered from c all x = BegunOf app.activity slack covered from (end_mark app x) c all (card_days app x)
 

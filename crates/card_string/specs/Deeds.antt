@@ -47,6 +47,7 @@ pub data Step : Type 0 where
   Done : Deed → Step
   Broken : Deed → Step
 
+-- what a step makes of a book
 abbrev pub Makes : (size : ℕ) → Step → (b c : Book) → Type 0
 Makes size (Done d) b c = c ≡ after size d b
 Makes size (Broken d) b c = IsDuring size d b c
@@ -56,7 +57,7 @@ abbrev pub MadeBy : (size : ℕ) → List Step → (b c : Book) → Type 0
 MadeBy size [] b c = c ≡ b
 MadeBy size (s ∷ ss) b c = (y : Book) × Makes size s b y × MadeBy size ss y c
 
--- the entries of which the keep is done
+-- the entry of a keep that is done
 abbrev pub kept_by : Step → List Entry
 kept_by (Done (Keep k)) = k.entry ∷ []
 kept_by (Done (Enter h)) = []
@@ -64,6 +65,7 @@ kept_by (Done (Close act)) = []
 kept_by (Done Cut) = []
 kept_by (Broken d) = []
 
+-- the entries of the keeps that are done
 abbrev pub kept_in : List Step → List Entry
 kept_in [] = []
 kept_in (s ∷ ss) = kept_by s ++ kept_in ss

@@ -43,11 +43,11 @@ day_marks mark (d ∷ ds) =
     ∷ day_marks mark ds
     else day_marks mark ds
 
--- of a card whose image was this at the start, with these entries more: all entries, and those with its days of the
--- start
+-- all entries of a card whose image was this at the start, with these more
 abbrev pub all_since : (image : List ℕ) → (more : List Entry) → List Entry
 all_since image more = (own_view image).held.entries ++ more
 
+-- the bound of such a card: these entries, and one for each of its days of the start
 abbrev pub bound_since : (image : List ℕ) → (more : List Entry) → Bound
 bound_since image more = record {
   bytes = most_slack;
@@ -55,11 +55,12 @@ bound_since image more = record {
       ++ all_since image more;
 }
 
--- the minute of its last entry at the start, 0 without one
+-- the minute of an entry, 0 without one
 abbrev pub minute_of : Option Entry → ℕ
 minute_of None = 0
 minute_of (Some e) = e.minute
 
+-- the minute of the last entry of a card at the start, 0 without one
 abbrev pub last_at : (image : List ℕ) → ℕ
 last_at image = minute_of (last_entry (own_view image).held.entries)
 

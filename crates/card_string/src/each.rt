@@ -1,3 +1,4 @@
+//! Laws of each image that a card may have: over each call it stands as the rule says.
 ghost use Rattle.std.specs.Prelude.{◌≡◌, ◌⊎◌, ℕ, suc, ◌<◌, ◌≤◌, Some, List, [], ◌∷◌, ◌++◌, length, Contains};
 ghost use Rattle.card_by_hand.specs.activity_codec.declared.entries.Entry.{Entry};
 ghost use Rattle.card_by_hand.specs.activity_codec.declared.entries.Manual.{Manual};

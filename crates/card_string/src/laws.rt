@@ -1,3 +1,4 @@
+//! Laws of the string: what is shown, kept and carried over each call.
 ghost use Rattle.std.specs.Prelude.{◌≡◌, ◌⊎◌, ℕ, suc, ◌/◌, ◌<◌, ◌≤◌, max, false, List, [], ◌∷◌, ◌++◌, length, filter};
 ghost use Rattle.std.specs.Prelude.{◌↔◌, nat_le, All};
 ghost use Rattle.card_by_hand.specs.activity_codec.declared.entries.Entry.{Entry};

@@ -60,6 +60,7 @@ pub record IsJudged (app : Application) (x : List ℕ) (j : Judged) : Type 0 whe
 abbrev pub identification_widths : List ℕ
 identification_widths = 1 ∷ 16 ∷ 36 ∷ 4 ∷ 4 ∷ 4 ∷ 36 ∷ 36 ∷ 4 ∷ 2 ∷ []
 
+-- the bytes of one of these fields, by its number from 0 on
 abbrev pub identification_field : Application → List ℕ → ℕ → List ℕ
 identification_field app x k = field_at identification_widths k (file_bytes app 0x0520 x)
 

@@ -12,10 +12,11 @@ use Rattle.card_validity.specs.declared.behind.First.{First}
 use Rattle.card_validity.specs.declared.walk.Walked.{Walked}
 use Rattle.card_validity.specs.Walks.{IsLastOf}
 
--- the words up to the mark, and those behind it
+-- the words up to the mark
 abbrev pub up_to : (mark : ℕ) → List PlacedWord → List PlacedWord
 up_to mark ws = filter (λ w. nat_le (minute_at w) mark) ws
 
+-- the words behind the mark
 abbrev pub beyond : (mark : ℕ) → List PlacedWord → List PlacedWord
 beyond mark ws = filter (λ w. nat_lt mark (minute_at w)) ws
 
@@ -37,11 +38,12 @@ abbrev pub with_check : Option ℕ → (passes : Bool) → (place : ℕ) → Opt
 with_check None passes place = if passes then None else Some place
 with_check (Some p) passes place = Some p
 
--- what is kept of the words behind the mark, with one word more
+-- what is kept of the first word behind the mark, with one word more
 abbrev pub first_after : (mark : ℕ) → Option First → PlacedWord → Option First
 first_after mark None w = Some (first_by mark w)
 first_after mark (Some f) w = Some f
 
+-- the place of the first of the words behind that one that is an entry's, with one word more
 abbrev pub bad_after : Option First → Option ℕ → PlacedWord → Option ℕ
 bad_after None bad w = bad
 bad_after (Some f) bad w = with_check bad (tells_none w) w.place
@@ -57,6 +59,7 @@ abbrev pub answer_by : (unclosed : Bool) → Option First → Option ℕ → Opt
 answer_by unclosed None bad = None
 answer_by unclosed (Some f) bad = if f.absent && not (unclosed && f.apart) then bad else Some f.place
 
+-- this is kept of the words behind the mark: the first of them, and the first of the others that is an entry's
 abbrev pub AreBehind : (mark : ℕ) → List PlacedWord → Option First → Option ℕ → Type 0
 AreBehind mark [] first bad = (first ≡ None) × (bad ≡ None)
 AreBehind mark (w ∷ ws) first bad = (first ≡ Some (first_by mark w)) × (bad ≡ first_failing (others_checks ws))

@@ -10,9 +10,9 @@ use activity_codec::{DAY_MINUTES, DAY_SECONDS, MINUTE_SECONDS, WORD_ABSENT, WORD
 /// What is kept of the first word behind the mark.
 #[derive(Clone, Copy)]
 pub struct First {
-    // it tells that no card was there
+    /// it tells that no card was there
     pub absent: bool,
-    // it does not stand at the minute after the mark
+    /// it does not stand at the minute after the mark
     pub apart: bool,
     pub place: u32,
 }
@@ -20,10 +20,10 @@ pub struct First {
 /// What was seen of the words so far.
 #[derive(Clone, Copy)]
 pub struct Behind {
-    // the latest word up to the mark is an entry's, and lies in the mark's day
+    /// the latest word up to the mark is an entry's, and lies in the mark's day
     pub unclosed: bool,
     pub first: Option<First>,
-    // where the first of the words behind the first one stands that is an entry's
+    /// where the first of the words behind the first one stands that is an entry's
     pub bad: Option<u32>,
 }
 
@@ -99,7 +99,7 @@ impl Behind {
         }
     }
 
-    // A word behind the first one.
+    /// A word behind the first one.
     fn others(&self, absent: bool, place: u32) -> Option<u32>
         ensures { result ≡ with_check self.now.bad absent place }
     {

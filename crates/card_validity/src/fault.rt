@@ -1,3 +1,4 @@
+//! Why a card was not accepted.
 ghost use Rattle.std.specs.Prelude.{◌≡◌};
 
 use card_layout::Fid;

@@ -36,7 +36,7 @@ pub struct Judged {
     pub current: CurrentUse,
 }
 
-// The string of days, or the place in its file where it first fails.
+/// The string of days, or the place in its file where it first fails.
 fn load_days(image: &[u8], app: &Application) -> Result<Days, u32>
     requires sizes { IsApplication app.now }
     requires inside { image_size_of app.now ≤ length image.now }
@@ -53,7 +53,7 @@ fn load_days(image: &[u8], app: &Application) -> Result<Days, u32>
     }
 }
 
-// The vehicle entries, where their pointer is an index.
+/// The vehicle entries, where their pointer is an index.
 fn load_vehicles(image: &[u8], app: &Application) -> Option<Ring>
     requires sizes { IsApplication app.now }
     requires inside { image_size_of app.now ≤ length image.now }
@@ -70,7 +70,7 @@ fn load_vehicles(image: &[u8], app: &Application) -> Option<Ring>
     }
 }
 
-// Whether the pointer of the place entries is an index.
+/// Whether the pointer of the place entries is an index.
 fn places_point(image: &[u8], app: &Application) -> bool
     requires sizes { IsApplication app.now }
     requires inside { image_size_of app.now ≤ length image.now }
@@ -86,7 +86,7 @@ fn places_point(image: &[u8], app: &Application) -> bool
     }
 }
 
-// The index of the newest vehicle entry, if there is one.
+/// The index of the newest vehicle entry, if there is one.
 fn newest_of(image: &[u8], app: &Application, ring: &Ring) -> Option<u32>
     requires sizes { IsApplication app.now }
     requires inside { image_size_of app.now ≤ length image.now }
@@ -100,7 +100,7 @@ fn newest_of(image: &[u8], app: &Application, ring: &Ring) -> Option<u32>
     ring.newest(&mut slice).unwrap()
 }
 
-// A vehicle entry that is there.
+/// A vehicle entry that is there.
 fn vehicle_in(image: &[u8], app: &Application, ring: &Ring, index: u32) -> Vehicle
     requires sizes { IsApplication app.now }
     requires inside { image_size_of app.now ≤ length image.now }
@@ -116,7 +116,7 @@ fn vehicle_in(image: &[u8], app: &Application, ring: &Ring, index: u32) -> Vehic
     read_vehicle(&bytes)
 }
 
-// The newest vehicle, if there is one.
+/// The newest vehicle, if there is one.
 fn newest_vehicle(
     image: &[u8],
     app: &Application,
@@ -136,7 +136,7 @@ fn newest_vehicle(
     }
 }
 
-// The current use.
+/// The current use.
 fn current_use(image: &[u8], app: &Application) -> CurrentUse
     requires sizes { IsApplication app.now }
     requires inside { image_size_of app.now ≤ length image.now }
@@ -156,7 +156,7 @@ pub fn last_use(vehicle: &Option<Vehicle>) -> TimeReal
     }
 }
 
-// Where the string of days lies.
+/// Where the string of days lies.
 fn round_of(image: &[u8], app: &Application) -> Round
     requires sizes { IsApplication app.now }
     requires inside { image_size_of app.now ≤ length image.now }
@@ -172,7 +172,7 @@ fn round_of(image: &[u8], app: &Application) -> Round
     }
 }
 
-// Judges the words of the days of an image whose files pass else, and tells what is known of it.
+/// Judges the words of the days of an image whose files pass else, and tells what is known of it.
 fn judge_words(
     image: &[u8],
     app: &Application,
@@ -211,8 +211,11 @@ fn judge_words(
     }
 }
 
-/// Judges the image of a card of these sizes: the string of days, the two rings, and the words of the days. `BadFile`
-/// exactly where one of these fails, with the first.
+/// Judges the image of a card of these sizes: the string of days, the two rings, and the words of the days.
+///
+/// # Errors
+///
+/// `BadFile` exactly where one of these fails, with the file that first fails and the place in it.
 pub fn judge_image(image: &[u8], app: &Application) -> Result<Judged, BadFile>
     requires sizes { IsApplication app.now }
     requires inside { image_size_of app.now ≤ length image.now }

@@ -49,7 +49,7 @@ const FIRST_NAMES: usize = 101;
 /// The card type of a driver card.
 const DRIVER_CARD: u8 = 1;
 
-// Reads the files that are judged, one after the other, into their places in room for an image.
+/// Reads the files that are judged, one after the other, into their places in room for an image.
 fn read_files<M: Medium>(port: &mut M, app: &Application, room: &mut [u8]) -> Result<(), Failed>
     requires sizes { IsApplication app.now }
     requires fits { image_size_of app.now ≤ (M.state port.old).size }
@@ -88,7 +88,7 @@ pub fn judge<M: Medium>(port: &mut M, app: &Application) -> Result<Judged, Inser
     }
 }
 
-// The newest minute of a card, of the days that count.
+/// The newest minute of a card, of the days that count.
 fn newest_minute(judged: &Judged) -> u32
     ensures { (app : Application) (x : List ℕ) → IsKnown app x judged.now
         → result ≡ max (end_mark app x) (newest_word
@@ -107,7 +107,7 @@ fn newest_minute(judged: &Judged) -> u32
     }
 }
 
-// The card's number, of a driver card with these bytes of Identification.
+/// The card's number, of a driver card with these bytes of Identification.
 fn number_of(identification: &[u8]) -> FullCardNumber
     requires { length identification.now ≡ IDENTIFICATION }
     ensures { result ≡ card_number_of (1 ∷ take 17 identification.now) }

@@ -26,14 +26,14 @@ pub struct Met {
 #[derive(Clone, Copy)]
 pub struct Walked {
     pub behind: Behind,
-    // a day later than the mark's was met
+    /// a day later than the mark's was met
     pub past: bool,
-    // the last day before it, and the last of all
+    /// the last day before it, and the last of all
     pub cut: Option<Met>,
     pub newest: Option<Met>,
 }
 
-// What was seen with the words of a day.
+/// What was seen with the words of a day.
 fn see_words(
     behind: Behind,
     days: &Days,
@@ -63,14 +63,14 @@ fn see_words(
     seen
 }
 
-// The last day that counts, with one day more, where no later one was met.
+/// The last day that counts, with one day more, where no later one was met.
 fn last_counting(past: bool, cut: Option<Met>, met: Met) -> Option<Met>
     ensures { result ≡ (if past then cut else Some met) }
 {
     if past { cut } else { Some(met) }
 }
 
-// Whether one of two is so.
+/// Whether one of two is so.
 fn either(first: bool, second: bool) -> bool
     ensures { result ≡ (first || second) }
 {
@@ -78,7 +78,7 @@ fn either(first: bool, second: bool) -> bool
 }
 
 impl Walked {
-    // What a walk has found with one day more.
+    /// What a walk has found with one day more.
     fn meet(self, days: &Days, image: &[u8], round: &Round, mark: u32, met: Met) -> Walked
         requires known { IsInMemory days.now.shape image.now }
         requires size { round.now.size ≡ days.now.shape.size }

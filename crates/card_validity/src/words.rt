@@ -22,8 +22,8 @@ use card_model::lengths::DAY_HEAD;
 /// No minute of a word is later.
 const ANY_MINUTE: u16 = 2047;
 
-// The place of the first word of a day, among those up to a minute of the day, that is not later than the one before
-// it.
+/// The place of the first word of a day, among those up to a minute of the day, that is not later than the one before
+/// it.
 fn first_not_later(days: &Days, image: &[u8], round: &Round, met: &Met, limit: u16) -> Option<u32>
     requires known { IsInMemory days.now.shape image.now }
     requires size { round.now.size ≡ days.now.shape.size }
@@ -50,7 +50,7 @@ fn first_not_later(days: &Days, image: &[u8], round: &Round, met: &Met, limit: u
     None
 }
 
-// Whether a minute is later than the one before it, if there is one.
+/// Whether a minute is later than the one before it, if there is one.
 fn is_later(before: Option<u16>, minute: u16) -> bool
     ensures { result ≡ passes_after before minute }
 {
@@ -87,7 +87,7 @@ pub fn first_bad_word(
     first_of(walked.behind.answer(), rising)
 }
 
-// The first of two, if there is one.
+/// The first of two, if there is one.
 fn first_of(first: Option<u32>, second: Option<u32>) -> Option<u32>
     ensures { result ≡ first_of first second }
 {
@@ -97,7 +97,7 @@ fn first_of(first: Option<u32>, second: Option<u32>) -> Option<u32>
     }
 }
 
-// The place of the first word of the newest day that is not later than the one before it.
+/// The place of the first word of the newest day that is not later than the one before it.
 fn first_of_newest(days: &Days, image: &[u8], round: &Round, newest: Option<Met>) -> Option<u32>
     requires known { IsInMemory days.now.shape image.now }
     requires size { round.now.size ≡ days.now.shape.size }
@@ -113,7 +113,7 @@ fn first_of_newest(days: &Days, image: &[u8], round: &Round, newest: Option<Met>
     }
 }
 
-// The same of the newest day up to the mark.
+/// The same of the newest day up to the mark.
 fn first_of_cut(
     days: &Days,
     image: &[u8],
@@ -139,7 +139,7 @@ fn first_of_cut(
     }
 }
 
-// Up to which minute a day counts that is not later than the mark's: the mark's own up to the mark.
+/// Up to which minute a day counts that is not later than the mark's: the mark's own up to the mark.
 fn limit_of(mark: u32, date: u32) -> u16
     requires { mark ≤ LAST_MINUTE }
     ensures { result ≡ limit_of mark date }

@@ -1,6 +1,6 @@
 -- What the calls on one device each leave: the unit, its rules, its images, and a card, each in a record (profile).
 use Rattle.std.specs.Prelude.{ℕ, ◌/◌, ◌<◌, ◌^◌, ◌∷◌, ◌≡◌, ◌≤◌, Bool, IfOk, IfSome, List, None, OnErr, OnOk}
-use Rattle.std.specs.Prelude.{Option, Result, Some, [], false, is_err, is_some, option_to_list, true, ◌+◌, ◌⊎◌}
+use Rattle.std.specs.Prelude.{Option, Result, Some, [], false, is_err, is_some, true, ◌+◌}
 use Rattle.std.specs.Prelude.{IsTrue, ◌==◌, ◌||◌, ◌≢◌}
 use Rattle.activity_codec.specs.declared.entries.Entry.{Entry}
 use Rattle.card_by_hand.specs.First.{IsFirstKeeping, IsFirstKept}
@@ -27,13 +27,14 @@ use Rattle.tach_media.specs.Medium.{HasCause, IsSettled, LeavesOnly, State, last
 use Rattle.tach_media.specs.declared.fault.Failed.{Failed}
 use Rattle.tacho_types.specs.CardNumber.{card_number_bytes}
 use Rattle.trace_model.specs.declared.Card.{Card}
+pub use Rattle.unit_minutes.specs.Calls.{MinuteMayBeKept, UnitIsReady}
 use Rattle.unit_minutes.specs.Image.{Agrees, IsKeeping as IsKeepingImage}
 use Rattle.unit_minutes.specs.Kept.{kept_minute}
 use Rattle.unit_minutes.specs.Mends.{IsMending as IsMendingImage, notes_mended}
 use Rattle.unit_minutes.specs.declared.kept.KeptMinute.{KeptMinute}
 use Rattle.unit_minutes.specs.declared.notes.Notes.{Notes}
 use Rattle.unit_minutes.specs.unit_model.Image.{IsUnit}
-use Rattle.unit_minutes.specs.unit_model.declared.layout.TheConstants.{HIGHEST_ODOMETER, LAST_MINUTE}
+use Rattle.unit_minutes.specs.unit_model.declared.layout.TheConstants.{OWED_ROWS}
 use Rattle.unit_minutes.specs.unit_owed.Rows.{IsPutting as IsPuttingRow, IsRowAt, IsRowBeginning, IsRowBegun, IsRowFor}
 use Rattle.unit_rule.specs.Marks.{UnitFollowsBook}
 use Rattle.unit_rule.specs.Odometer.{HasTravelled, odometer_after, odometer_by}
@@ -46,10 +47,7 @@ use Rattle.device_calls.specs.Rule.{IsRowTaken, IsTakenUp, card_seen, number_of,
 use Rattle.device_calls.specs.Travel.{HasGone}
 use Rattle.device_calls.specs.declared.entering.Entered.{Entered}
 use Rattle.device_calls.specs.declared.entering.NotEntered.{NotEntered}
-use Rattle.card_session.specs.card_days.Steps.{IsIdle}
-use Rattle.card_layout.specs.Application.{IsApplication}
 pub use Rattle.card_session.specs.Inserting.{CardMayBePutIn, MayBePutIn}
-use Rattle.card_validity.specs.Judged.{TellsSizes}
 use Rattle.unit_rule.specs.card_model.declared.lengths.TheConstants.{DAYS_MOST}
 use Rattle.card_files.specs.declared.card_event.CardEvent.{CardEvent}
 use Rattle.card_files.specs.Noting.{IsEventNoted, IsNotingEvent, IsNotingPlace, IsPlaceNoted}
@@ -133,20 +131,6 @@ pub record LeavesOwing (which : Card) (number : List ℕ) (entry : Entry) (U V X
   pub moments : LeavesOnly U V (IsPuttingRow number entry)
   pub keeps : (t : ℕ) (x : List ℕ) → t ≤ U.clock → U.left_since t x → V.left_since t x
 
--- THE RULES behind an entry that was put, if the minute that comes says one on the card
-pub record RulesOwingSome (which : Card) (result : Result (Unit {0}) Failed) (number : List ℕ) (entry : Option Entry)
-    (U V X Z : State) : Type 0 where
-  pub holds : (s : Started) (due : ℕ) (b : Book) (marks : List Mark) → IsCards s number
-      → UnitFollowsBook s due b marks U → UnitFollowsBook s due b marks V
-  pub mine : (r : Both) (s : Started) (due : ℕ) (b : Book) (marks : List Mark) (z : Standing)
-      → number ≡ number_of r which → UnitFollowsBook s due b marks U
-      → IfSome entry (λ e. (due ≤ e.minute) × (1440 ≤ e.minute) × IsPresent (opened r which).start z e.minute)
-      → CardHolds r which b z [] [] U X → IsKeptUp r which b z (option_to_list entry) [] (is_err result) V X
-  pub others : (r : Both) (s : Started) (due : ℕ) (b : Book) (marks : List Mark) (y z : Standing) (m d : List Entry)
-      → number ≡ number_of r which → UnitFollowsBook s due b marks U
-      → IfSome entry (λ e. (due ≤ e.minute) × (1440 ≤ e.minute)) → CardHolds r which b y [] [] U X
-      → CardHolds r (other which) b z m d U Z → IsKeptUp r (other which) b z m d (is_err result) V Z
-
 -- THE UNIT STANDS behind a minute: it is a unit still; where it did not fail its journal has the minute and its
 -- odometer, they agree, and each row is whose it was; where it failed the journal is as it was
 pub record UnitStandsCommitted (kept : KeptMinute) (result : Result (Unit {0}) Failed) (old new : Notes)
@@ -210,7 +194,7 @@ pub record LeavesMended (old : Notes) (U V : State) : Type 0 where
 -- WHICH ROW of the unit is to be the card's, while the row of the number that is spared is another's
 pub record IsRowTold (result : Result Entered NotEntered) (spared : Option (List ℕ)) (U : State) : Type 0 where
   pub own : IfOk result (λ e. IfSome U.image (IsRowFor e.row (card_number_bytes e.look.number) spared))
-  pub low : IfOk result (λ e. e.row < 8)
+  pub low : IfOk result (λ e. e.row < OWED_ROWS)
 
 -- THE RULES behind a card that was put in: the unit follows its book, the other card stands as it did, and so does this
 -- one, whose row is not begun yet; where it is accepted it has entered so that it may be begun
@@ -277,18 +261,6 @@ pub record CardStandsKept (result : Result (Unit {0}) Failed) (app : Application
   pub settled : OnOk result (Y.clock < last_count → IsSettled Y)
   pub cause : HasCause X Y (is_err result)
 
--- THE UNIT IS READY for a call: it is a unit, and agrees with the journal
-pub record UnitIsReady (journal : Notes) (U : State) : Type 0 where
-  pub unit : IsUnit U
-  pub agrees : IfSome U.image (Agrees journal)
-
--- A MINUTE MAY BE KEPT by the unit: it is later than the last-kept one, and it and its odometer are within their bounds
-pub record MayBeCommitted (kept : KeptMinute) (journal : Notes) : Type 0 where
-  pub low : 1440 ≤ kept.minute
-  pub later : journal.kept < kept.minute
-  pub small : kept.minute ≤ LAST_MINUTE
-  pub odometer : kept.odometer.0 ≤ HIGHEST_ODOMETER
-
 -- A CARD MAY BE PUT IN at this second: its minute is later than the last-kept one, and it and the odometer are within
 -- their bounds
 pub record MayEnter (now odometer : ℕ) (journal : Notes) : Type 0 where
@@ -307,14 +279,6 @@ pub record MayKeepEntry (session : Session) (kept : Kept) (hands : Holding) : Ty
 -- THE UNIT ANSWERS so, and begins so many writes at most
 pub record UnitAnswersWithin (writes : ℕ) (failed : Bool) (U V : State) : Type 0 where
   pub goes : UnitAnswers failed U V
-  pub most : V.clock ≤ U.clock + writes
-
--- THE UNIT ANSWERS, if it was called: its clock does not fall, and it tells its image where it did; it failed exactly
--- where that was answered, or was not called; and it begins so many writes at most
-pub record UnitAnswersIfCalled (writes : ℕ) (failed : Bool) (U V : State) : Type 0 where
-  pub clock : U.clock ≤ V.clock
-  pub tells : is_some V.image ≡ is_some U.image
-  pub cause : HasCause U V failed ⊎ ((failed ≡ false) × IsIdle U V)
   pub most : V.clock ≤ U.clock + writes
 
 -- THE CARD IS WRITTEN as one that is put in: only where it told of no later time, and so many writes at most
@@ -376,12 +340,12 @@ pub record ClosesOnCard (result : Result (Unit {0}) Failed) (session : Session) 
 
 -- THIS ROW OF THE UNIT is the number's
 pub record HasRowAt (index : ℕ) (number : List ℕ) (U : State) : Type 0 where
-  pub low : index < 8
+  pub low : index < OWED_ROWS
   pub row : IfSome U.image (IsRowAt index number)
 
 -- THIS ROW OF THE UNIT may be begun for the number, while the row of the number that is spared stays
 pub record MayBeginRow (index : ℕ) (number : List ℕ) (spared : Option (List ℕ)) (U : State) : Type 0 where
-  pub low : index < 8
+  pub low : index < OWED_ROWS
   pub row : IfSome U.image (IsRowFor index number spared)
 
 -- A DEVICE WAS REVIVED AND READ: it was not written, and its clock is as it was; it failed exactly where that was

@@ -1,11 +1,10 @@
--- A minute is kept by the unit and both cards (profile): what is carried from one minute to the next, and what a minute
--- says.
-use Rattle.std.specs.Prelude.{◌≡◌, ◌⊎◌, ℕ, suc, ◌<◌, ◌≤◌, Option, None, IfSome, List, [], ◌∷◌, ◌++◌, length}
-use Rattle.std.specs.Prelude.{option_to_list, is_some, true}
+-- A card keeps its entry of a minute that the unit has (profile): what the rules know then, and what is carried of the
+-- card's string from one entry to the next.
+use Rattle.std.specs.Prelude.{◌≡◌, ◌⊎◌, ℕ, suc, ◌<◌, ◌≤◌, None, IfSome, List, [], ◌∷◌, ◌++◌, length}
+use Rattle.std.specs.Prelude.{is_some, true}
 use Rattle.activity_codec.specs.declared.entries.Entry.{Entry}
 use Rattle.activity_codec.specs.declared.entries.Manual.{Manual}
 use Rattle.trace_model.specs.declared.Card.{Card}
-use Rattle.unit_rule.specs.run_model.declared.Device.TheVariants.{Unit as Recorder}
 use Rattle.tach_media.specs.Medium.{State}
 use Rattle.unit_rule.specs.card_retention.Expected.{Counted, with_entry}
 use Rattle.unit_rule.specs.card_retention.Shown.{Bound}
@@ -15,17 +14,12 @@ use Rattle.card_by_hand.specs.First.{AreHandsOf, IsShutAt}
 use Rattle.card_by_hand.specs.Wider.{with_hands}
 use Rattle.unit_rule.specs.card_string.Carried.{IsFresh}
 use Rattle.hand_model.specs.Holding.{Holding}
-use Rattle.unit_minutes.specs.declared.kept.KeptMinute.{KeptMinute}
-use Rattle.unit_minutes.specs.Kept.{kept_minute}
 use Rattle.unit_rule.specs.log_model.declared.lines.Mark.{Mark}
-use Rattle.unit_rule.specs.history_model.Minutes.{HistoryMinute, on_card}
-use Rattle.unit_rule.specs.history_model.Book.{Book, kept, broken}
-use Rattle.unit_rule.specs.device_rule.Filling.{seen_by_unit}
-use Rattle.unit_rule.specs.device_rule.Views.{other}
-use Rattle.unit_rule.specs.device_rule.Rules.{Standing, Out, In, Torn, IsPresent}
-use Rattle.unit_rule.specs.Rule.{Started, once_mended, IsCards}
+use Rattle.unit_rule.specs.history_model.Book.{Book}
+use Rattle.unit_rule.specs.device_rule.Rules.{Standing, Out, In, Torn}
+use Rattle.unit_rule.specs.Rule.{Started}
 use Rattle.unit_rule.specs.Marks.{UnitFollowsBook}
-use Rattle.device_calls.specs.Rule.{Both, opened, number_of, CardHolds, CardRests}
+use Rattle.device_calls.specs.Rule.{Both, opened, CardHolds}
 use Rattle.device_calls.specs.OnCard.{SessionKnowsCard, CardMayTake, hands_for}
 
 -- What minutes are kept over: how it all began, from where on a minute may come, the history, and the marks.
@@ -35,62 +29,6 @@ pub record Known : Type 0 where
   pub due : ℕ
   pub book : Book
   pub marks : List Mark
-
--- after a minute that the unit kept, and acknowledged at this clock
-abbrev pub known_after : Known → HistoryMinute → (clock : ℕ) → Known
-known_after k i clock =
-    record {
-      both = k.both;
-      started = k.started;
-      due = suc i.minute;
-      book = kept i k.book;
-      marks = k.marks ++ record { device = Recorder; minute = i.minute; clock = clock } ∷ [];
-    }
-
--- BETWEEN TWO MINUTES, while the unit has power: nothing is owed to a card that is accepted and in its slot, and each
--- card stands as it does.
-pub record AreBetween (k : Known) (c d : Card) (number_c number_d : List ℕ) (y z : Standing)
-    (unit first second : State) : Type 0 where
-  pub holds : UnitFollowsBook (once_mended k.started) k.due k.book k.marks unit
-  pub none : k.book.maybe ≡ None
-  pub two : d ≡ other c
-  pub named_first : number_c ≡ number_of k.both c
-  pub named_second : number_d ≡ number_of k.both d
-  pub first_told : IsCards k.started number_c
-  pub second_told : IsCards k.started number_d
-  pub one_rule : CardHolds k.both c k.book y [] [] unit first
-  pub other_rule : CardHolds k.both d k.book z [] [] unit second
-
--- A minute may come next, and says these entries on the cards: one on a card only where that is present.
-pub record SaysBoth (k : Known) (c d : Card) (i : HistoryMinute) (m : KeptMinute) (e f : Option Entry)
-    (y z : Standing) : Type 0 where
-  pub same : kept_minute m ≡ seen_by_unit i
-  pub late : k.due ≤ i.minute
-  pub first : on_card c i ≡ option_to_list e
-  pub second : on_card d i ≡ option_to_list f
-  pub first_present : IfSome e (λ e. IsPresent (opened k.both c).start y e.minute)
-  pub second_present : IfSome f (λ f. IsPresent (opened k.both d).start z f.minute)
-
--- The unit has the minute, and these entries of it are owed to the cards.
-pub record AreOwed (k : Known) (c d : Card) (e f : Option Entry) (y z : Standing) (unit first second : State) : Type
-    0 where
-  pub holds : UnitFollowsBook (once_mended k.started) k.due k.book k.marks unit
-  pub none : k.book.maybe ≡ None
-  pub one_rule : CardHolds k.both c k.book y [] (option_to_list e) unit first
-  pub other_rule : CardHolds k.both d k.book z [] (option_to_list f) unit second
-
--- all of them where the unit failed, while this is the history
-pub record AreDark (k : Known) (c d : Card) (y z : Standing) (due : ℕ) (b : Book) (unit first second : State) : Type
-    0 where
-  pub holds : UnitFollowsBook k.started due b k.marks unit
-  pub one_rule : CardRests k.both c b y unit first
-  pub other_rule : CardRests k.both d b z unit second
-
--- the minute was not begun, or was
-abbrev pub AreCutOff : Known → (c d : Card) → HistoryMinute → (y z : Standing) → (unit first second : State) → Type 0
-AreCutOff k c d i y z unit first second =
-    AreDark k c d y z k.due k.book unit first second
-    ⊎ AreDark k c d y z (suc i.minute) (broken i k.book) unit first second
 
 -- ---- a card that sits in its slot
 

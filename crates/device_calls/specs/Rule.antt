@@ -30,10 +30,12 @@ pub record Both : Type 0 where
   pub card_b : Opened
   pub two : card_a.number ≢ card_b.number
 
+-- what the opening found of a card
 abbrev pub opened : Both → Card → Opened
 opened r A = r.card_a
 opened r B = r.card_b
 
+-- and its number
 abbrev pub number_of : Both → Card → List ℕ
 number_of r c = (opened r c).number
 
@@ -41,6 +43,7 @@ number_of r c = (opened r c).number
 abbrev pub unit_seen : Both → State → Seen UnitView
 unit_seen r unit = seen (unit_view (number_of r A) (number_of r B)) unit
 
+-- a card, by what its images show
 abbrev pub card_seen : State → Seen CardView
 card_seen card = seen own_view card
 

@@ -23,11 +23,15 @@ use unit_minutes::Journal;
 /// of these entries were put on it, which are the last ones, and which row of the unit is to be its.
 #[derive(Drop)]
 pub struct Entered {
+    /// What it told before anything was written.
     pub look: CardLook,
+    /// The entries that were owed to it.
     pub owed: Owed,
+    /// Its session.
     pub session: CardSession,
+    /// How many of the owed entries were put on it: the last ones.
     pub replayed: u8,
-    /// The row of the unit that is begun for it.
+    /// The row of the unit that is begun for it, 0 to 7.
     pub row: u32,
 }
 
@@ -35,10 +39,15 @@ pub struct Entered {
 /// unit stays: the other card's, where that has one.
 #[derive(Clone, Copy)]
 pub struct CardInsertion {
+    /// Its sizes.
     pub app: Application,
+    /// The second in which it is put in.
     pub time: TimeReal,
+    /// The vehicle.
     pub registration: Registration,
+    /// The vehicle's odometer then, in km.
     pub odometer: Odometer,
+    /// The number of the other card, whose row stays.
     pub spared: Option<FullCardNumber>,
 }
 
@@ -55,7 +64,7 @@ pub enum NotEntered {
     TimeOverlap { stored: u32, now: u32 },
 }
 
-// Why a card is not accepted, as the insertion of a session tells it.
+/// Why a card is not accepted, as the insertion of a session tells it.
 fn refused_by(fault: InsertFault) -> NotEntered
     ensures { result ≡ of_card fault }
 {
@@ -66,7 +75,7 @@ fn refused_by(fault: InsertFault) -> NotEntered
     }
 }
 
-// A card that told this gets the entries that it is owed, and a session.
+/// A card that told this gets the entries that it is owed, and a session.
 fn insert_by<C: Medium>(
     card: &mut C,
     insertion: CardInsertion,
@@ -101,7 +110,7 @@ fn insert_by<C: Medium>(
     }
 }
 
-// The same, once the unit tells which entries these are.
+/// The same, once the unit tells which entries these are.
 fn enter_as<M: Medium, C: Medium>(
     unit: &mut M,
     journal: &Journal,
@@ -132,7 +141,7 @@ fn enter_as<M: Medium, C: Medium>(
     }
 }
 
-// The same, of a card behind a port, once it is judged.
+/// The same, of a card behind a port, once it is judged.
 fn enter_by<M: Medium, C: Medium>(
     unit: &mut M,
     journal: &Journal,
@@ -154,7 +163,7 @@ fn enter_by<M: Medium, C: Medium>(
     }
 }
 
-// How many bytes a registration has, which is 15.
+/// How many bytes a registration has, which is 15: called for the proof alone.
 fn length_of(registration: &Registration) -> usize
     ensures { length registration.now.0 ≡ 15 }
 {
@@ -165,6 +174,8 @@ fn length_of(registration: &Registration) -> usize
 /// Puts in a card of these sizes: it is judged, the entries that the unit owes to it are put on it, and a session is
 /// opened. The row of its number is told, while the row of the number that is spared is another's, and not begun yet:
 /// that comes behind the note of the insertion (`begin`).
+///
+/// No line here reads the other card, or which of them this is: `rules` speaks of them.
 ///
 /// # Errors
 ///
@@ -193,6 +204,7 @@ pub fn enter<M: Medium, C: Chip, D: Chip>(
     ensures stands { UnitStandsAsked journal.now result (M.state unit.new) }
     ensures card { CardStandsPutIn insertion.app insertion.time.0 (C.state card.old) (C.state card.new)
         (C.card card.new) }
+    // Of the argument, not of the call: a caller's proof knows by it that a registration has 15 bytes.
     ensures long { length insertion.registration.0 ≡ 15 }
     ensures most { (C.state card.new).clock ≤ (C.state card.old).clock + (DAYS_MOST + 84) }
 {

@@ -22,6 +22,8 @@ use trace_model::Card;
 /// Takes out an accepted card whose minutes are kept: its words are closed with what is selected then, and its session
 /// ends.
 ///
+/// No line here reads the unit, or which card it is: `rule` speaks of them.
+///
 /// # Errors
 ///
 /// `Failed` where the card failed, which is a tear.

@@ -14,7 +14,6 @@ mod entering;
 mod leaving;
 mod mending;
 mod on_card;
-mod on_unit;
 mod owing;
 mod step_laws;
 
@@ -31,7 +30,6 @@ pub use entering::{CardInsertion, Entered, NotEntered, enter};
 pub use leaving::leave;
 pub use mending::mend;
 pub use on_card::keep_on_card;
-pub use on_unit::{BothSaid, Said, keep_on_unit};
 pub use owing::{OwedEntry, owe};
 pub use step_laws::{
     a_card_out_of_its_slot_stands, a_card_sits_on, a_card_that_was_read_rests,

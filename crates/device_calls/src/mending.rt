@@ -2,12 +2,15 @@
 ghost use Rattle.std.specs.Prelude.{IfSome, is_err};
 ghost use Rattle.unit_minutes.specs.unit_model.Image.{IsUnit};
 ghost use Rattle.unit_minutes.specs.Mends.{IsMendable};
+ghost use Rattle.unit_minutes.specs.Writes.{mend_most};
 ghost use Rattle.device_calls.specs.Calls.{LeavesMended, RulesMended, UnitStandsMended, UnitAnswersWithin};
 
 use tach_media::{Chip, Failed, Medium};
 use unit_minutes::Journal;
 
 /// Mends a unit that was found at a power-on. No card is accepted any more.
+///
+/// No line here reads the cards: `rules` speaks of them.
 ///
 /// # Errors
 ///
@@ -23,7 +26,7 @@ pub fn mend<M: Medium, C: Chip, D: Chip>(
     ensures stands { UnitStandsMended result journal.old journal.new (M.state unit.new) }
     ensures rules { RulesMended result (M.state unit.old) (M.state unit.new) (C.state first.now) (D.state second.now) }
     ensures leaves { LeavesMended journal.old (M.state unit.old) (M.state unit.new) }
-    ensures answers { UnitAnswersWithin 34 (is_err result) (M.state unit.old) (M.state unit.new) }
+    ensures answers { UnitAnswersWithin mend_most (is_err result) (M.state unit.old) (M.state unit.new) }
 {
     journal.mend(unit)
 }

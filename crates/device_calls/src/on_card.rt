@@ -15,7 +15,7 @@ use card_session::{CardSession, Kept};
 use hand_model::Held;
 use tach_media::{Chip, Failed, Medium};
 
-// A card behind a port keeps its entry.
+/// A card behind a port keeps its entry.
 fn keep_by<M: Medium, C: Medium>(
     unit: &M,
     card: &mut C,

@@ -1,3 +1,4 @@
+//! Laws beside the steps: what stays of the rules where no call was made, and what a step makes possible.
 ghost use Rattle.std.specs.Prelude.{◌≡◌, ◌⊎◌, ◌↔◌, ℕ, suc, ◌/◌, ◌<◌, ◌≤◌, true, Some, None, IfSome, is_some, List, []};
 ghost use Rattle.std.specs.Prelude.{◌∷◌, ◌++◌, length, All};
 ghost use Rattle.activity_codec.specs.declared.entries.Entry.{Entry};

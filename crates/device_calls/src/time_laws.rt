@@ -1,3 +1,4 @@
+//! A law: when a card was last used, as the calls on it leave that.
 ghost use Rattle.std.specs.Prelude.{◌≡◌, ◌≤◌, IfSome, ℕ, List, length};
 ghost use Rattle.activity_codec.specs.declared.entries.Entry.{Entry};
 ghost use Rattle.activity_codec.specs.declared.entries.Manual.{Manual};

@@ -46,11 +46,12 @@ pub record IsOwing (number_a number_b : List ℕ) (c : Card) (given : List Entry
 abbrev pub HasBrought : (number_a number_b : List ℕ) → Card → ℕ → (unit card : State) → Type 0
 HasBrought number_a number_b c k unit card = IsRepaired c k (of_unit number_a number_b unit) (of_card card)
 
--- so it stays as the unit goes on, and as the card does
+-- so it stays as the unit goes on
 abbrev pub UnitKeepsBrought : (number_a number_b : List ℕ) → Card → (old new card : State) → Type 0
 UnitKeepsBrought number_a number_b c old new card = (k : ℕ) → HasBrought number_a number_b c k old card
     → HasBrought number_a number_b c k new card
 
+-- and as the card does
 abbrev pub CardKeepsBrought : (number_a number_b : List ℕ) → Card → (unit old new : State) → Type 0
 CardKeepsBrought number_a number_b c unit old new = (k : ℕ) → HasBrought number_a number_b c k unit old
     → HasBrought number_a number_b c k unit new

@@ -10,6 +10,7 @@ pub record Counted : Type 0 where
   pub held : Held
   pub similar : ℕ
 
+-- the events of these places
 abbrev pub held_of : List Counted → List Held
 held_of table = map (λ c. c.held) table
 
@@ -32,6 +33,7 @@ counted_at table event None (Some q) = slice_set table q
     (record { held = (counted_in table q).held; similar = similar_after (similar_in table (Some q)) })
 counted_at table event None None = table
 
+-- the places of a type with one event more
 abbrev pub counted : ℕ → List Counted → Held → List Counted
 counted kind table event = counted_at table event (place_of kind (held_of table) event)
     (day_place kind (held_of table) event)

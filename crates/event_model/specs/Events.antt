@@ -45,6 +45,7 @@ abbrev pub accepted_card : Option Sitting → Option Card
 accepted_card None = None
 accepted_card (Some sitting) = option_map {T = ℕ} {U = Card} (λ u. sitting.card) sitting.accepted
 
+-- the accepted cards of both slots
 abbrev pub crew_of : Slots → Crew
 crew_of slots = record { driver = accepted_card slots.driver; codriver = accepted_card slots.codriver }
 
@@ -74,10 +75,12 @@ pub record Seen : Type 0 where
   pub within : ℕ → Slots
   pub itself : Slots
 
+-- the slots within an action of a second, by the number of those that have begun
 abbrev pub within_by : RunLog → Before → TraceSecond → ℕ → Slots
 within_by log before s zero = (fresh (not before.running) before.slots).slots
 within_by log before s (suc n) = moved_by_action log before s n (slice_get s.actions n)
 
+-- a second as its events see it, by what came before
 abbrev pub seen_by : RunLog → Before → TraceSecond → Seen
 seen_by log before s = record {
   told = second_told log before s;
@@ -91,6 +94,7 @@ pub record Watched : Type 0 where
   pub seen : List Seen
   pub before : Before
 
+-- with one second more
 abbrev pub watched_on : RunLog → Watched → TraceSecond → Watched
 watched_on log w s = record {
   seen = w.seen ++ seen_by log w.before s
@@ -108,6 +112,7 @@ seen_on [] x = (x ∷ []) ∷ []
 seen_on (span ∷ []) x = (span ++ x ∷ []) ∷ []
 seen_on (span ∷ next ∷ spans) x = span ∷ seen_on (next ∷ spans) x
 
+-- a second with power goes on the last span, or begins one; one without power is in none
 abbrev pub seen_with : List (List Seen) → Seen → List (List Seen)
 seen_with spans x = if x.told.lit then (if x.told.starts then spans ++ (x ∷ []) ∷ [] else seen_on spans x) else spans
 
@@ -115,6 +120,7 @@ seen_with spans x = if x.told.lit then (if x.told.starts then spans ++ (x ∷ []
 abbrev pub seen_spans : List Seen → List (List Seen)
 seen_spans xs = fold seen_with [] xs
 
+-- the number of a second
 abbrev pub number_of : Seen → ℕ
 number_of x = x.told.second.number
 
@@ -138,6 +144,7 @@ run_event kind most average first run = record {
 abbrev pub is_bare : Seen → Bool
 is_bare x = nat_lt 0 x.told.second.speed && not (is_accepted x.itself.driver)
 
+-- a run of such seconds as an event
 abbrev pub bare_event : List Seen → Option Event
 bare_event [] = None
 bare_event (x ∷ run) = Some (run_event DRIVING_WITHOUT_CARD 0 0 x run)
@@ -146,9 +153,11 @@ bare_event (x ∷ run) = Some (run_event DRIVING_WITHOUT_CARD 0 0 x run)
 abbrev pub bare_events : RunLog → List TraceSecond → List Event
 bare_events log ss = flat_map (λ span. filter_map bare_event (ended_runs is_bare span)) (seen_spans (seen_of log ss))
 
+-- a second with its speed
 abbrev pub speed_second : Seen → SpeedSecond
 speed_second x = record { number = number_of x; speed = x.told.second.speed }
 
+-- a run of seconds above the limit as an event, where it is longer than a minute
 abbrev pub over_event : List Seen → Option Event
 over_event [] = None
 over_event (x ∷ run) =
@@ -212,6 +221,7 @@ gap_event t log span (x ∷ next) =
     (record { driver = standing t x Driver; codriver = standing t x CoDriver }))
     (gap_of (kept_after log (last_number span)) (number_of x)))
 
+-- the interruptions between these spans
 abbrev pub gaps_between : Tearing → RunLog → List (List Seen) → List Event
 gaps_between t log [] = []
 gaps_between t log (span ∷ []) = []

@@ -17,6 +17,7 @@ pub record KeepsRecent (room : ℕ) (all kept : List Held) : Type 0 where
   pub most : length kept ≤ room
   pub recent : All (λ other. (length kept ≡ room) × All (λ h. other.begin ≤ h.begin) kept) others
 
+-- the events that begin on a day
 abbrev pub on_day : ℕ → List Held → List Held
 on_day day events = filter (λ h. h.begin / 86400 == day) events
 

@@ -17,11 +17,12 @@ pub record DriverSecond : Type 0 where
   pub number : ℕ
   pub bare : Bool
 
--- the first number of a list and its last one, 0 without one
+-- the first number of a list, 0 without one
 abbrev pub first_of : List ℕ → ℕ
 first_of [] = 0
 first_of (x ∷ xs) = x
 
+-- and the last one
 abbrev pub last_of : List ℕ → ℕ
 last_of xs = fold (λ last x. x) 0 xs
 
@@ -34,9 +35,11 @@ InARow from (x ∷ xs) = (x ≡ from) × InARow (from + 1) xs
 abbrev pub is_above : ℕ → SpeedSecond → Bool
 is_above limit s = nat_lt limit s.speed
 
+-- the numbers of these seconds
 abbrev pub numbers : List SpeedSecond → List ℕ
 numbers run = map (λ s. s.number) run
 
+-- and their speeds
 abbrev pub speeds : List SpeedSecond → List ℕ
 speeds run = map (λ s. s.speed) run
 

@@ -3,7 +3,9 @@
 /// From one second to another, both included.
 #[derive(Clone, Copy, Debug, PartialEq, Eq)]
 pub struct Span {
+    /// Its first second.
     pub begin: u32,
+    /// Its last second.
     pub end: u32,
 }
 

@@ -1,3 +1,4 @@
+//! Laws on the definitions of specs/: they run nothing, and their contracts say what is proved of them.
 ghost use Rattle.std.specs.Prelude.{◌≡◌, ℕ, ◌<◌, ◌≤◌, true, false, List, [], ◌∷◌, ◌++◌, length, All};
 ghost use Rattle.event_model.specs.declared.entries.Held.{Held};
 ghost use Rattle.event_model.specs.Kinds.{purpose_of, is_by_day};

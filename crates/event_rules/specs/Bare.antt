@@ -9,15 +9,19 @@ pub record Bare : Type 0 where
   pub begin : ℕ
   pub seconds : ℕ
 
+-- no run goes on
 abbrev pub no_run : Bare
 no_run = record { begin = 0; seconds = 0 }
 
+-- the run that goes on behind these seconds
 abbrev pub bare_run : List DriverSecond → List DriverSecond
 bare_run seconds = last_run (λ s. s.bare) seconds
 
+-- the numbers of these seconds
 abbrev pub numbers : List DriverSecond → List ℕ
 numbers run = map (λ s. s.number) run
 
+-- a run as it is kept
 abbrev pub counted : List DriverSecond → Bare
 counted run = record { begin = first_of (numbers run); seconds = length run }
 

@@ -11,6 +11,7 @@ pub record Speeding : Type 0 where
   pub limit : ℕ
   pub run : Fast
 
+-- no run goes on
 abbrev pub no_run : Fast
 no_run = record { begin = 0; seconds = 0; sum = 0; most = 0 }
 

@@ -3,6 +3,7 @@ ghost use Rattle.std.specs.Prelude.{◌^◌, ◌≡◌, ◌+◌, ◌/◌, ◌==�
 ghost use Rattle.event_model.specs.Spans.{DriverSecond, bares_of, all_bare, gap_of};
 ghost use Rattle.event_rules.specs.Bare.{Bare, CountsDriverSeconds, IsNext, no_run, grown, span_in};
 
+use activity_codec::MINUTE_SECONDS;
 use event_model::Span;
 use std::marker::Model;
 
@@ -137,7 +138,7 @@ pub fn power_gap(kept: u32, now: u32) -> Option<Span>
         return None;
     }
     Some(Span {
-        begin: 60 * (kept + 1),
+        begin: MINUTE_SECONDS * (kept + 1),
         end: now,
     })
 }

@@ -1,3 +1,4 @@
+//! Laws on the definitions of specs/: they run nothing, and their contracts say what is proved of them.
 ghost use Rattle.std.specs.Prelude.{◌≡◌, ◌+◌, ◌++◌, ℕ, suc, Bool};
 ghost use Rattle.event_model.specs.Spans.{at_speed, all_bare};
 

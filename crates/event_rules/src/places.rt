@@ -6,12 +6,10 @@ ghost use Rattle.event_model.specs.Places as places;
 ghost use Rattle.event_model.specs.Places.{is_of_day, measure, earliest, recent_place, where_later, place_of};
 ghost use Rattle.std.specs.List.{list_all};
 
+use activity_codec::DAY_SECONDS;
 use event_model::{
     DRIVING_WITHOUT_CARD, Held, INSERTION_WHILE_DRIVING, OVER_SPEEDING, POWER_INTERRUPTION, Purpose,
 };
-
-/// The seconds of a day.
-const DAY: u32 = 86_400;
 
 /// How events of a type are kept.
 pub fn purpose_of(kind: u8) -> Purpose
@@ -54,7 +52,7 @@ pub fn day_place(kind: u8, held: &[Held], event: &Held) -> Option<u8>
     if !keeps_by_day(purpose_of(kind)) {
         return None;
     }
-    match place_on(held, event.begin / DAY) {
+    match place_on(held, event.begin / DAY_SECONDS) {
         None => None,
         Some(place) => Some(place as u8),
     }
@@ -121,7 +119,7 @@ fn is_earliest(one: &Held, held: &[Held]) -> bool
 fn began_on(held: &Held, day: u32) -> bool
     ensures { result ≡ is_of_day day held.now }
 {
-    held.begin != 0 && held.begin / DAY == day
+    held.begin != 0 && held.begin / DAY_SECONDS == day
 }
 
 /// By what the events of a day are measured.

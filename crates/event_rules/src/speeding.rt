@@ -7,8 +7,8 @@ ghost use Rattle.event_rules.specs.Speeding.{Speeding, CountsSpeedSeconds, IsNex
 use event_model::Over;
 use std::marker::Model;
 
-/// An over speeding is longer than this, in seconds.
-const SECONDS: u64 = 60;
+/// How many seconds above the limit make no over speeding yet.
+const TOLERATED_SECONDS: u64 = 60;
 
 /// The run of seconds above the limit that goes on: its first second, how many seconds it has, the sum of their speeds
 /// and the highest of them. No run has no seconds.
@@ -57,7 +57,7 @@ impl Fast {
         requires sum { self.sum ≤ 255 * self.seconds }
         ensures { result ≡ over_in self }
     {
-        if self.seconds <= SECONDS {
+        if self.seconds <= TOLERATED_SECONDS {
             return None;
         }
         Some(Over {

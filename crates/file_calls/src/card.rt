@@ -42,16 +42,17 @@ impl CardEntries for CardHistory {
     }
 }
 
-/// The vehicle entries of a card file that are there, oldest first. It refuses as `read_card_file` does.
+/// The vehicle entries of a card file that are there, oldest first.
+///
+/// # Errors
+///
+/// As those of `read_card_file`: `BadFile` with the place where it is no card file, and `Memory`.
 pub fn vehicles(alloc: Global, b: &[u8]) -> Result<Vec<Vehicle>, ViewFault>
     requires { length b.now < 2 ^ 32 }
     ensures told { IfOk result (λ vehicles. (entries : List CardEntry) × ShowsCard b.now entries vehicles.items) }
     ensures bad { IfErr result (λ fault. IfBadFile fault (λ place. IsBadCardFile place b.now)) }
 {
-    match read_card(alloc, b) {
-        Ok(read) => Ok(read.vehicles),
-        Err(fault) => Err(fault),
-    }
+    Ok(read_card(alloc, b)?.vehicles)
 }
 
 /// How many minutes lines have, as far as 32 bits count.

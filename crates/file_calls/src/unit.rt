@@ -8,14 +8,10 @@ ghost use Rattle.card_match.specs.Matching.{is_within};
 ghost use Rattle.card_match.specs.Cases.{begins_by, is_from, line_from, line_use};
 ghost use Rattle.file_calls.specs.Asking.{shown_at, IsFirstDay};
 
+use activity_codec::{DAY_MINUTES, DAY_SECONDS};
 use file_view::{UnitHistory, read_front};
 use tacho_types::Registration;
 use view_model::{Line, UnitShown};
-
-/// How many minutes a day has, and how many seconds.
-const MINUTES: u32 = 1440;
-
-const SECONDS: u32 = 86400;
 
 /// What a unit file shows of a minute: what both slots have, and whether it is CREW.
 pub type UnitMinute = UnitShown;
@@ -45,7 +41,7 @@ impl UnitMinutes for UnitHistory {
     fn first_day(&self) -> Option<u32> {
         match first_on(self.lines()) {
             Some(day) => {
-                let second = SECONDS * day;
+                let second = DAY_SECONDS * day;
                 Some(second)
             }
             None => None,
@@ -103,7 +99,7 @@ fn earlier_day(first: Option<u32>, line: Line<UnitShown>) -> Option<u32>
     if line.last < line.first {
         return first;
     }
-    let day = line.first / MINUTES;
+    let day = line.first / DAY_MINUTES;
     match first {
         Some(known) => Some(known.min(day)),
         None => Some(day),

@@ -3,6 +3,7 @@ use Rattle.std.specs.Prelude.{◌≡◌, ◌⊎◌, ℕ, ◌<◌, ◌==◌, Bool
 use Rattle.std.specs.Prelude.{◌++◌, length, map, drop, All}
 use Rattle.card_layout.specs.Fields.{joined}
 use Rattle.tacho_types.specs.declared.texts.Registration.{Registration}
+use Rattle.link_model.specs.declared.services.TheConstants.{MESSAGE}
 use Rattle.message_model.specs.Messages.{Message, AnOverview, ADay, AnEventList, ASpeedList, ATechnical, message_bytes}
 use Rattle.message_model.specs.Messages.{IsMessage}
 use Rattle.file_view.specs.UnitFiles.{HasNoMessage}
@@ -20,7 +21,7 @@ registration_in (ATechnical m ∷ ms) = registration_in ms
 -- the bytes begin with 76, as each message does
 abbrev pub begins_message : List ℕ → Bool
 begins_message [] = false
-begins_message (b ∷ bytes) = b == 0x76
+begins_message (b ∷ bytes) = b == MESSAGE
 
 -- the bytes of a registration, if there is one
 abbrev pub registration_bytes : Option Registration → Option (List ℕ)

@@ -6,11 +6,9 @@ ghost use Rattle.file_view.specs.UnitFiles.{HasNoMessage};
 ghost use Rattle.file_view.specs.Fronts.{Leads, IsFront, IsBadFront, begins_message, registration_in};
 ghost use Rattle.file_view.specs.Fronts.{registration_bytes, first_registration};
 
+use link_model::services::MESSAGE;
 use tacho_types::Registration;
 use unit_messages::{Request, overview, read_message};
-
-/// What a message begins with.
-const SERVICE: u8 = 0x76;
 
 /// A unit file at the front of bytes.
 #[derive(Clone, Copy, Debug, PartialEq, Eq)]
@@ -46,7 +44,7 @@ pub fn read_front(b: &[u8]) -> Result<FrontRead, u32>
 fn goes_on(b: &[u8], place: usize) -> bool
     ensures { result ≡ begins_message (drop place b.now) }
 {
-    place < b.len() && b[place] == SERVICE
+    place < b.len() && b[place] == MESSAGE
 }
 
 /// With the message that stands behind it.

@@ -23,6 +23,7 @@ body_pieces r i head = some_piece (place_of r i) (take r.gate head)
 abbrev pub pointer_bytes : Shape → ℕ → List ℕ
 pointer_bytes r i = drop (4 - r.pointer_width) (to_be_bytes w32 i)
 
+-- the write of the pointer, where the entry is not the one that it has
 abbrev pub pointer_pieces : Shape → (last i : ℕ) → List Piece
 pointer_pieces r last i = if last == i then [] else piece r.base (pointer_bytes r i) ∷ []
 

@@ -24,6 +24,8 @@ size_of r = r.pointer_width + r.count * r.width
 abbrev pub is_pointer_width : ℕ → Bool
 is_pointer_width w = (w == 0) || ((w == 1) || ((w == 2) || (w == 4)))
 
+-- the numbers of a ring fit one another: it has a place, a gate lies in an entry, the pointer can name each place, and
+-- it ends below 2 ^ 32
 pub record IsShape (r : Shape) : Type 0 where
   pub some : 0 < r.count
   pub gate : r.gate + 4 ≤ r.width
@@ -35,10 +37,11 @@ pub record IsShape (r : Shape) : Type 0 where
 abbrev pub FitsIn : Shape → State → Type 0
 FitsIn r s = r.base + size_of r ≤ s.size
 
--- where an entry begins, and where its gate does
+-- where an entry begins
 abbrev pub place_of : Shape → ℕ → ℕ
 place_of r i = r.base + r.pointer_width + i * r.width
 
+-- where its gate begins
 abbrev pub gate_of : Shape → ℕ → ℕ
 gate_of r i = place_of r i + r.gate
 
@@ -50,9 +53,11 @@ pointer r x = number_at x r.base r.pointer_width
 abbrev pub PointsInside : Shape → List ℕ → Type 0
 PointsInside r x = pointer r x < r.count
 
+-- an entry is there: its gate is not 0
 abbrev pub is_there : Shape → List ℕ → ℕ → Bool
 is_there r x i = not (number_at x (gate_of r i) 4 == 0)
 
+-- the bytes of the entry at an index
 abbrev pub entry_at : Shape → List ℕ → ℕ → List ℕ
 entry_at r x i = bytes_at x (place_of r i) r.width
 
@@ -72,20 +77,22 @@ indices r x = filter (is_there r x) (order r (next r (pointer r x)))
 abbrev pub ring_list : Shape → List ℕ → List (List ℕ)
 ring_list r x = map (entry_at r x) (indices r x)
 
--- the indices in the list's order that are there, or are this one; and those that are there, but for this one
+-- the indices in the list's order that are there, or are this one
 unfoldable pub indices_with : Shape → List ℕ → ℕ → List ℕ
 indices_with r x i = filter (λ j. (j == i) || is_there r x j) (order r (next r (pointer r x)))
 
+-- those that are there, but for this one
 unfoldable pub indices_without : Shape → List ℕ → ℕ → List ℕ
 indices_without r x i = filter (λ j. not (j == i)) (indices r x)
 
--- the index of the last entry, None where the list is empty
+-- the entry at this index is there, and is the last of the list
 pub record IsLast (r : Shape) (x : List ℕ) (i : ℕ) : Type 0 where
   pub below : i < r.count
   pub there : is_there r x i ≡ true
   pub older : List ℕ
   pub indices_are : indices r x ≡ older ++ i ∷ []
 
+-- this is the index of the newest entry, None where no entry is there
 abbrev pub IsNewest : Shape → List ℕ → Option ℕ → Type 0
 IsNewest r x None = indices r x ≡ []
 IsNewest r x (Some i) = IsLast r x i
@@ -112,10 +119,11 @@ staying r x = without_first (taken r x) (indices r x)
 abbrev pub with_head : Shape → List ℕ → ℕ → List ℕ → List ℕ
 with_head r x i head = head ++ drop (length head) (entry_at r x i)
 
--- the gate's bytes of a head, and the number in them
+-- the bytes of the gate in a head
 abbrev pub gate_bytes : Shape → List ℕ → List ℕ
 gate_bytes r head = bytes_at head r.gate 4
 
+-- the number in the gate of a head
 abbrev pub gate_number : Shape → List ℕ → ℕ
 gate_number r head = number_at head r.gate 4
 

@@ -1,3 +1,4 @@
+//! Why a ring was not loaded.
 ghost use Rattle.std.specs.Prelude.{◌≡◌};
 
 use tach_media::Failed;

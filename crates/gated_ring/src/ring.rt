@@ -1,3 +1,4 @@
+//! A ring of entries in a medium: what stands in it, and its writes, each entry behind a gate.
 ghost use Rattle.std.specs.Prelude.{◌≡◌, ◌≤◌, ◌<◌, ◌+◌, ◌^◌, min, length, take, drop, IfOk, OnOk, IfSome, is_err};
 ghost use Rattle.std.specs.Prelude.{true, IsTrue, IsFalse, IfErr, IsOk, ◌⊎◌, ◌*◌, ◌-◌};
 ghost use Rattle.std.specs.List.{range_with_len};
@@ -129,7 +130,7 @@ impl Ring {
         Ok(ring)
     }
 
-    // Where an entry begins.
+    /// Where an entry begins.
     fn place_of(&self, index: u32) -> u32
         requires { index < self.now.count }
         ensures place { result ≡ place_of self.now index }
@@ -141,7 +142,7 @@ impl Ring {
         self.base + self.pointer_width + index * self.width
     }
 
-    // The index after this one, round the end.
+    /// The index after this one, round the end.
     fn next(&self, index: u32) -> u32
         requires { index < self.now.count }
         ensures next { result ≡ next self.now index }
@@ -151,7 +152,7 @@ impl Ring {
         if index + 1 == count { 0 } else { index + 1 }
     }
 
-    // Where an entry's gate begins.
+    /// Where an entry's gate begins.
     fn gate_place(&self, index: u32) -> u32
         requires { index < self.now.count }
         ensures place { result ≡ gate_of self.now index }
@@ -163,7 +164,7 @@ impl Ring {
         self.place_of(index) + self.gate
     }
 
-    // The number in an entry's gate.
+    /// The number in an entry's gate.
     fn gate<M: Medium>(&self, medium: &mut M, index: u32) -> Result<u32, Failed>
         requires fits { FitsIn self.now (M.state medium.old) }
         requires index { index < self.now.count }
@@ -175,7 +176,7 @@ impl Ring {
         read_number(medium, self.gate_place(index), 4)
     }
 
-    // The pointer. One past the end is read as 0.
+    /// The pointer. One past the end is read as 0.
     fn last<M: Medium>(&self, medium: &mut M) -> Result<u32, Failed>
         requires fits { FitsIn self.now (M.state medium.old) }
         ensures last { IfOk result (λ last. IfSome (M.state medium.old).image (λ x. PointsInside self.now x → last
@@ -188,7 +189,7 @@ impl Ring {
         Ok(if pointer < self.count { pointer } else { 0 })
     }
 
-    // The pointer and the index that the next entry takes.
+    /// The pointer and the index that the next entry takes.
     fn choose<M: Medium>(&self, medium: &mut M) -> Result<(u32, u32), Failed>
         requires fits { FitsIn self.now (M.state medium.old) }
         ensures last { IfOk result (λ found. IfSome (M.state medium.old).image (λ x. PointsInside self.now x → found.0
@@ -206,6 +207,10 @@ impl Ring {
     }
 
     /// Reads where the next entry goes: the pointer's own index where no entry is there, else the next.
+    ///
+    /// # Errors
+    ///
+    /// `Failed` where a call on the medium failed.
     pub fn room<M: Medium>(&self, medium: &mut M) -> Result<Room, Failed>
         requires fits { FitsIn self.now (M.state medium.old) }
         ensures last { IfOk result (λ room. IfSome (M.state medium.old).image (λ x. PointsInside self.now x → room.last
@@ -227,7 +232,7 @@ impl Ring {
         })
     }
 
-    // The bytes of an entry's beginning that stand in its gate, before it and behind it.
+    /// The bytes of an entry's beginning that stand in its gate, before it and behind it.
     fn gate_bytes<'a>(&self, head: &'a [u8]) -> &'a [u8]
         requires { self.now.gate + 4 ≤ length head.now }
         ensures bytes { result.now ≡ gate_bytes self.now head.now }
@@ -253,7 +258,7 @@ impl Ring {
         &head[self.gate as usize + 4..]
     }
 
-    // Adds the write that shuts an entry's gate, where the entry is there.
+    /// Adds the write that shuts an entry's gate, where the entry is there.
     fn plan_shut<const N: usize, const B: usize>(
         &self,
         plan: &mut Plan<N, B>,
@@ -274,7 +279,7 @@ impl Ring {
         plan.put(self.gate_place(index), &[0; 4]);
     }
 
-    // Adds the writes of an entry's bytes beside its gate.
+    /// Adds the writes of an entry's bytes beside its gate.
     fn plan_body<const N: usize, const B: usize>(
         &self,
         plan: &mut Plan<N, B>,
@@ -296,7 +301,7 @@ impl Ring {
         plan_some(plan, self.gate_place(index) + 4, self.back(head));
     }
 
-    // Adds the write of the pointer, where it differs.
+    /// Adds the write of the pointer, where it differs.
     fn plan_pointer<const N: usize, const B: usize>(
         &self,
         plan: &mut Plan<N, B>,
@@ -318,7 +323,7 @@ impl Ring {
         plan.put(self.base, &bytes[4 - self.pointer_width as usize..]);
     }
 
-    // Adds the write of an entry's gate.
+    /// Adds the write of an entry's gate.
     fn plan_gate<const N: usize, const B: usize>(
         &self,
         plan: &mut Plan<N, B>,
@@ -358,7 +363,7 @@ impl Ring {
         self.plan_gate(plan, room.index, head);
     }
 
-    // Writes a new entry where there is room for it.
+    /// Writes a new entry where there is room for it.
     fn place<M: Medium>(&self, medium: &mut M, room: &Room, head: &[u8]) -> Result<(), Failed>
         requires fits { FitsIn self.now (M.state medium.old) }
         requires writable { LiesInside (M.state medium.old).writable self.now.base (size_of self.now) }
@@ -376,7 +381,7 @@ impl Ring {
         put_pieces(medium, &plan)
     }
 
-    // Writes an entry, there or not, and leaves the pointer.
+    /// Writes an entry, there or not, and leaves the pointer.
     fn exchange<M: Medium>(
         &self,
         medium: &mut M,
@@ -408,6 +413,10 @@ impl Ring {
     ///
     /// The gate is shut first and opened last, so a stop at a moment of the call leaves the list before, that list
     /// without the entry whose place is taken, or the new list.
+    ///
+    /// # Errors
+    ///
+    /// `Failed` where a call on the medium failed.
     pub fn add<M: Medium>(&mut self, medium: &mut M, head: &[u8]) -> Result<u32, Failed>
         requires fits { FitsIn self.old (M.state medium.old) }
         requires writable { LiesInside (M.state medium.old).writable self.old.base (size_of self.old) }
@@ -431,6 +440,10 @@ impl Ring {
 
     /// Adds the newest entry as [`Ring::add`] does, behind one that is known to be there at the pointer, and answers
     /// its index. Of the ring it reads the gate alone whose place is taken.
+    ///
+    /// # Errors
+    ///
+    /// `Failed` where a call on the medium failed.
     pub fn add_behind<M: Medium>(
         &mut self,
         medium: &mut M,
@@ -466,6 +479,10 @@ impl Ring {
     /// a head that is shorter than the entry stays as it was.
     ///
     /// A stop at a moment of the call leaves the entry as it was, none, or the new one.
+    ///
+    /// # Errors
+    ///
+    /// `Failed` where a call on the medium failed.
     pub fn put_at<M: Medium>(
         &mut self,
         medium: &mut M,
@@ -490,6 +507,10 @@ impl Ring {
     }
 
     /// Writes 0 into the gate of an entry, which then is not there. A stop leaves it as it was or shut.
+    ///
+    /// # Errors
+    ///
+    /// `Failed` where a call on the medium failed.
     pub fn close_gate<M: Medium>(&mut self, medium: &mut M, index: u32) -> Result<(), Failed>
         requires fits { FitsIn self.old (M.state medium.old) }
         requires writable { LiesInside (M.state medium.old).writable (gate_of self.old index) 4 }
@@ -508,6 +529,10 @@ impl Ring {
 
     /// Writes 1 to 4 bytes of an entry, at `offset` in it and beside its gate. A stop leaves all of them written or
     /// none.
+    ///
+    /// # Errors
+    ///
+    /// `Failed` where a call on the medium failed.
     pub fn set_small<M: Medium>(
         &mut self,
         medium: &mut M,
@@ -531,7 +556,7 @@ impl Ring {
         medium.write_at(self.place_of(index) + offset, bytes)
     }
 
-    // The last index from one on and below another whose entry is there.
+    /// The last index from one on and below another whose entry is there.
     fn newest_in<M: Medium>(
         &self,
         medium: &mut M,
@@ -558,6 +583,10 @@ impl Ring {
     }
 
     /// The index of the newest entry, or `None` exactly where the list is empty.
+    ///
+    /// # Errors
+    ///
+    /// `Failed` where a call on the medium failed.
     pub fn newest<M: Medium>(&self, medium: &mut M) -> Result<Option<u32>, Failed>
         requires fits { FitsIn self.now (M.state medium.old) }
         requires pointer { 0 < self.now.pointer_width }
@@ -574,6 +603,10 @@ impl Ring {
     }
 
     /// Whether an entry is there, and then its beginning in `out`, which else stays as it was.
+    ///
+    /// # Errors
+    ///
+    /// `Failed` where a call on the medium failed.
     pub fn entry<M: Medium>(
         &self,
         medium: &mut M,
@@ -599,7 +632,7 @@ impl Ring {
     }
 }
 
-// Adds the write of bytes, of which there may be none.
+/// Adds the write of bytes, of which there may be none.
 fn plan_some<const N: usize, const B: usize>(plan: &mut Plan<N, B>, place: u32, bytes: &[u8])
     requires short { length bytes.now ≤ B }
     requires at_once { length bytes.now ≤ 255 }

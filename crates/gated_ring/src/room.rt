@@ -1,3 +1,5 @@
+//! Where the next entry goes.
+
 /// Where a ring has room for the next entry.
 #[derive(Clone, Copy, Debug, PartialEq, Eq)]
 pub struct Room {

@@ -9,10 +9,11 @@ use Rattle.card_image.specs.Fields.{card_days}
 use Rattle.card_image.specs.Own.{own_sizes, own_view}
 use Rattle.hand_model.specs.ByHand.{by_hand_up_to, by_hand_in}
 
--- those up to its end mark, and all that its words tell
+-- the entries by hand up to its end mark
 abbrev pub marked_at : List ℕ → List Manual
 marked_at image = by_hand_up_to (own_view image).mark (card_days (own_sizes image) image)
 
+-- all entries by hand that its words tell
 abbrev pub all_at : List ℕ → List Manual
 all_at image = by_hand_up_to (max (own_view image).mark (newest_word (card_days (own_sizes image) image)))
     (card_days (own_sizes image) image)

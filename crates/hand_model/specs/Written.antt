@@ -75,10 +75,11 @@ pub record Hands : Type 0 where
 abbrev pub no_hands : Hands
 no_hands = record { sure = []; given = [] }
 
--- a keep that was acknowledged, and one that was broken off
+-- with those of a keep that was acknowledged
 abbrev pub and_sure : List Manual → Hands → Hands
 and_sure hs h = record { sure = h.sure ++ hs; given = h.given ++ hs }
 
+-- with those of a keep that was broken off
 abbrev pub and_given : List Manual → Hands → Hands
 and_given hs h = record { sure = h.sure; given = h.given ++ hs }
 

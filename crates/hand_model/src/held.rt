@@ -53,6 +53,13 @@ impl Held {
     }
 
     /// Whether an entry by hand of this minute is taken, where the card's newest minute is this.
+    ///
+    /// # Errors
+    ///
+    /// 1. `Begun` where the session has kept a minute, with the first such.
+    /// 2. `NotFree` where the minute is not later than the newest one of the card and of the entries by hand, or not
+    ///    earlier than the insertion, with these two minutes.
+    /// 3. `Full` where it holds 8 already.
     pub fn may_enter(&self, newest: u32, minute: u32) -> Result<(), EnterFault>
         ensures answer { result_err result ≡ stopped_by self.now newest minute }
     {
@@ -92,7 +99,7 @@ impl Held {
         self.entries.as_slice()
     }
 
-    // The later of the card's newest minute and of the last entry by hand.
+    /// The later of the card's newest minute and of the last entry by hand.
     fn latest(&self, newest: u32) -> u32
         ensures { result ≡ last_minute newest self.now.entries }
     {
@@ -105,7 +112,7 @@ impl Held {
     }
 }
 
-// The first minute that was kept, behind a keep of a minute.
+/// The first minute that was kept, behind a keep of a minute.
 fn first_of(begun: Option<u32>, minute: u32) -> Option<u32>
     ensures { result ≡ first_of minute begun }
 {

@@ -1,3 +1,4 @@
+//! Laws of the words of entries by hand.
 ghost use Rattle.std.specs.Prelude.{◌≡◌, ◌<◌, ◌≤◌, ℕ, true, None, Some, List};
 ghost use Rattle.activity_codec.specs.Words.{word_absent, word_minute};
 ghost use Rattle.card_image.specs.card_model.Days.{Day, AreDays};

@@ -8,11 +8,11 @@ pub record Book : Type 0 where
   pub maybe : Option HistoryMinute
   pub lost : List (List HistoryMinute)
 
--- all of them that count
+-- all minutes that count: the sure ones, and behind them the one that may be there
 abbrev pub all : Book → List HistoryMinute
 all b = b.sure ++ option_to_list b.maybe
 
--- at the start
+-- the book at the start of a run: no minute is kept or lost
 abbrev pub not_begun : Book
 not_begun = record { sure = []; maybe = None; lost = [] }
 

@@ -35,7 +35,7 @@ FailedCutIn log u = Contains (map second_of (cuts true log)) u
 abbrev pub TornIn : Card → ToldSecond → Type 0
 TornIn card t = (v : Visit) × (v.card ≡ card) × (Contains t.course.torn v ⊎ Contains t.course.pulled v)
 
--- or in one from this second on and up to another
+-- the card is torn out or pulled out in a second that lies between these two, both included
 abbrev pub TornBetween : List ToldSecond → Card → (from to : ℕ) → Type 0
 TornBetween told card from to = (t : ToldSecond) × Contains told t × (from ≤ t.second.number) × (t.second.number ≤ to)
     × TornIn card t

@@ -29,7 +29,7 @@ abbrev pub settled_where : Bool → Span → Span
 settled_where true span = settled span
 settled_where false span = span
 
--- with these selections for the next second
+-- a span with these selections for its next second
 abbrev pub picking : List (Slot × Pick) → Span → Span
 picking picks span =
     record { rule = span.rule; first = span.first; seconds = span.seconds; pending = picks; settlings = span.settlings }

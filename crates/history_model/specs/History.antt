@@ -21,7 +21,7 @@ seated start told past d = record {
   codriver = record { act = d.codriver; card = present_in start told past d.minute CoDriver };
 }
 
--- decided minutes likewise, one after another
+-- decided minutes one after another, each with the cards that were present, where these came before them
 abbrev pub minutes_after : Start → List ToldSecond → List HistoryMinute → List Minute → List HistoryMinute
 minutes_after start told past [] = []
 minutes_after start told past (d ∷ ds) =
@@ -35,7 +35,7 @@ settlings_of span = map (λ t. t.second.number) (filter (λ t. t.course.settled)
 abbrev pub decided_of : Rule → List ToldSecond → List Minute
 decided_of rule span = decided rule (seconds_in span) (settlings_of span)
 
--- the same with the cards
+-- the decided minutes of a span with the cards that were present in them, where these came before
 abbrev pub span_minutes : Rule → Start → List ToldSecond → List HistoryMinute → List ToldSecond → List HistoryMinute
 span_minutes rule start told past span = minutes_after start told past (decided_of rule span)
 
@@ -76,7 +76,7 @@ history_by rule start limit told past (span ∷ later) =
     let more : List HistoryMinute = limited_to (limit span later) (span_minutes rule start told past span) in
     more ++ history_by rule start limit told (past ++ more) later
 
--- the unit history
+-- the unit history: the decided minutes of all spans, each span up to the limit of its cut
 unfoldable pub unit_history : Rule → Start → RunLog → List ToldSecond → List HistoryMinute
 unit_history rule start log told = history_by rule start (limit_of log) told [] (spans_of told)
 

@@ -1,3 +1,4 @@
+//! How the history of a run grows from second to second, and a book with it: laws.
 ghost use Rattle.std.specs.Prelude.{◌≡◌, ◌⊎◌, ◌+◌, ◌<◌, ◌≤◌, ◌/◌, true, false, None, ℕ, ◌++◌, ◌∷◌, List, [], All};
 ghost use Rattle.std.specs.Prelude.{length};
 ghost use Rattle.log_model.specs.trace_model.Trace.{TraceSecond};

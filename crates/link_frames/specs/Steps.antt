@@ -2,6 +2,7 @@
 use Rattle.std.specs.Prelude.{ℕ, Bool, true, false, if◌then◌else◌, Option, Some, None, is_some, List, [], ◌∷◌}
 use Rattle.std.specs.List.{list_all}
 use Rattle.link_model.specs.declared.request.Request.{Request}
+use Rattle.link_model.specs.declared.services.TheConstants.{TRANSFER_DATA, DATA_NOT_AVAILABLE}
 use Rattle.link_model.specs.Answers.{LinkState, Idle, Started, Diagnostic, Upload, Sending, Reply, answers, silent}
 use Rattle.link_model.specs.Answers.{refuses, Check, checked, begins_if_any, sends_on, check}
 use Rattle.link_frames.specs.declared.standing.Standing.{Standing}
@@ -38,7 +39,7 @@ decided state service (Some code) reply = refuses state service code
 
 -- a request of a message, behind its other checks: where there is no such message it is refused
 abbrev pub begins : LinkState → Request → Option (List ℕ) → Reply
-begins state request content = checked state 0x36 (check (is_some content) 0xFA ∷ [])
+begins state request content = checked state TRANSFER_DATA (check (is_some content) DATA_NOT_AVAILABLE ∷ [])
     (begins_if_any request content state)
 
 -- what is answered by a step, and where the session stands then

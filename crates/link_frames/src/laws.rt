@@ -1,6 +1,8 @@
+//! What holds of a run on the link: laws, which are functions without a body.
 ghost use Rattle.std.specs.Prelude.{◌≡◌, ℕ, ◌≤◌, ◌-◌, ◌++◌, min, length, List, Option, Some};
 ghost use Rattle.std.specs.List.{concat};
 ghost use Rattle.link_model.specs.declared.request.Request.{Request};
+ghost use Rattle.link_model.specs.declared.lengths.TheConstants.{WHOLE_MOST};
 ghost use Rattle.link_model.specs.Frames.{Heard};
 ghost use Rattle.link_model.specs.Answers.{LinkState, Idle, run_from, frames_out};
 ghost use Rattle.link_frames.specs.Sending.{IsPart};
@@ -30,6 +32,6 @@ pub fn a_fresh_line_answers_by_the_table()
 
 /// Of whatever length, and whatever bytes are read, they are the part of some message.
 pub fn a_part_is_of_some_message()
-    ensures { (from len : ℕ) (bytes : List ℕ) → 2 ≤ from → 2 ≤ len → length bytes ≡ min 252 (len - from)
+    ensures { (from len : ℕ) (bytes : List ℕ) → 2 ≤ from → 2 ≤ len → length bytes ≡ min WHOLE_MOST (len - from)
         → (content : Option (List ℕ)) × IsPart content from (Some len) bytes }
 {}

@@ -1,3 +1,4 @@
+//! A stream of bytes heard: the frames in it, whatever pieces it comes in.
 ghost use Rattle.std.specs.Prelude.{◌≡◌, ◌≤◌, ◌-◌, ◌++◌, ℕ, List, [], length, take, drop, IfSome, IfNone, option_map};
 ghost use Rattle.std.specs.Prelude.{option_to_list, true};
 ghost use Rattle.link_model.specs.Frames.{Heard, IsUnfinished, Stream};

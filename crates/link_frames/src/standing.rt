@@ -1,3 +1,4 @@
+//! Where a session stands on the link, and what may be asked there.
 ghost use Rattle.std.specs.Prelude.{◌≡◌};
 ghost use Rattle.link_model.specs.Answers.{is_diagnostic, is_upload, is_sending};
 ghost use Rattle.link_frames.specs.Steps.{state_of};

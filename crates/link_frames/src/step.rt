@@ -1,3 +1,4 @@
+//! What a session does about a frame, and the checks that decide it.
 ghost use Rattle.std.specs.Prelude.{◌≡◌, ℕ, false, ◌&&◌, map, List, Option};
 ghost use Rattle.link_model.specs.declared.request.Request.{Request as Asked};
 ghost use Rattle.link_model.specs.Answers.{checked, refuses};
@@ -6,6 +7,7 @@ ghost use Rattle.link_frames.specs.Steps.{state_of, performed, asks, check_of, a
 use crate::Frame;
 use crate::standing::Standing;
 use link_model::Request;
+use link_model::services::REFUSAL;
 
 /// What a session does about a frame.
 #[derive(Drop)]
@@ -35,7 +37,9 @@ impl Step {
 /// A check of the table, and the code of the refusal where it fails.
 #[derive(Clone, Copy, Debug, PartialEq, Eq)]
 pub struct Check {
+    /// Whether what is checked is so.
     pub holds: bool,
+    /// The code of the refusal where it is not, one of `link_model::services`.
     pub code: u8,
 }
 
@@ -45,7 +49,7 @@ pub fn refused(standing: Standing, service: u8, code: u8) -> Step
         → performed messages result ≡ refuses (state_of standing) service code }
     ensures asks { asks result ≡ false }
 {
-    Step::Answer(Frame::new(&[0x7F, service, code]), standing)
+    Step::Answer(Frame::new(&[REFUSAL, service, code]), standing)
 }
 
 /// The first check that fails refuses; where none does, the step.
@@ -61,7 +65,7 @@ pub fn checked(standing: Standing, service: u8, checks: &[Check], step: Step) ->
     step
 }
 
-// The code of the first check that fails.
+/// The code of the first check that fails.
 fn failing(checks: &[Check]) -> Option<u8>
     ensures { result ≡ failing_code checks.now }
 {

@@ -1,16 +1,24 @@
+//! A frame as it is written, with its sum.
 ghost use Rattle.std.specs.Prelude.{◌≡◌, ◌≤◌, ◌++◌, ◌∷◌, [], length};
+ghost use Rattle.link_model.specs.declared.lengths.TheConstants.{FRAME_MOST};
 ghost use Rattle.link_model.specs.Frames.{Right};
 ghost use Rattle.link_model.specs.Hearing.{heard_in, kept_after};
 ghost use Rattle.link_model.specs.Writing.{other, written_to, with_sum, written_long};
 
 use crate::frame::Frame;
-use crate::hearing::{addresses, sum_of};
+use crate::hearing::{KEPT, addresses, sum_of};
 use arrayvec::ArrayVec;
 use link_model::End;
+use link_model::services::{
+    LOADER_ADDRESS, LONG_FORM, SHORT_FORM, START_COMMUNICATION, UNIT_ADDRESS,
+};
+
+/// The most bytes of a frame as it is written: behind those of `KEPT` stands the sum.
+pub const WRITTEN: usize = KEPT + 1;
 
 /// Writes a frame from this side to the other, with its sum. The start of communication goes to the unit in the short
 /// form.
-pub fn write_frame(from: End, frame: &Frame) -> ArrayVec<u8, 260>
+pub fn write_frame(from: End, frame: &Frame) -> ArrayVec<u8, WRITTEN>
     ensures bytes { result.items ≡ written_to (other from) frame.now }
     // The other side hears this frame of it, and nothing else.
     ensures heard { heard_in (other from) [] result.items ≡ Right frame.now ∷ [] }
@@ -19,14 +27,14 @@ pub fn write_frame(from: End, frame: &Frame) -> ArrayVec<u8, 260>
     written(from, frame.bytes())
 }
 
-// The bytes of a frame with this data.
-fn written(from: End, body: &[u8]) -> ArrayVec<u8, 260>
-    requires { length body.now ≤ 255 }
+/// The bytes of a frame with this data.
+fn written(from: End, body: &[u8]) -> ArrayVec<u8, WRITTEN>
+    requires { length body.now ≤ FRAME_MOST }
     ensures { result.items ≡ written_to (other from) body.now }
 {
     match from {
-        End::Loader if body.len() == 1 && body[0] == 0x81 => with_sum(
-            &[0x81, 0xEE, 0xF0, 0x81],
+        End::Loader if body.len() == 1 && body[0] == START_COMMUNICATION => with_sum(
+            &[SHORT_FORM, UNIT_ADDRESS, LOADER_ADDRESS, START_COMMUNICATION],
             &[],
         ),
         End::Loader => long(End::Unit, body),
@@ -34,18 +42,18 @@ fn written(from: End, body: &[u8]) -> ArrayVec<u8, 260>
     }
 }
 
-// A frame in the form with a length, to this side.
-fn long(to: End, body: &[u8]) -> ArrayVec<u8, 260>
-    requires { length body.now ≤ 255 }
+/// A frame in the form with a length, to this side.
+fn long(to: End, body: &[u8]) -> ArrayVec<u8, WRITTEN>
+    requires { length body.now ≤ FRAME_MOST }
     ensures { result.items ≡ written_long to body.now }
 {
     let [second, third] = addresses(to);
-    with_sum(&[0x80, second, third, body.len() as u8], body)
+    with_sum(&[LONG_FORM, second, third, body.len() as u8], body)
 }
 
-// A header with data behind it, and their sum.
-fn with_sum(header: &[u8; 4], body: &[u8]) -> ArrayVec<u8, 260>
-    requires { length body.now ≤ 255 }
+/// A header with data behind it, and their sum.
+fn with_sum(header: &[u8; 4], body: &[u8]) -> ArrayVec<u8, WRITTEN>
+    requires { length body.now ≤ FRAME_MOST }
     ensures { result.items ≡ with_sum (header.now ++ body.now) }
 {
     let mut bytes = ArrayVec::new();

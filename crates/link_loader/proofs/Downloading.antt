@@ -5,7 +5,8 @@ use Rattle.std.proofs.lemmas.Bool.Decides.{nat_tests}
 use Rattle.link_model.specs.declared.request.Request.{Request}
 use Rattle.link_model.specs.declared.request.Request.TheVariants.{Overview as AskOverview, Day as AskDay, Events as AskEvents, Speed as AskSpeed, Technical as AskTechnical}
 use Rattle.link_model.specs.Frames.{Right}
-use Rattle.link_model.specs.Answers.{LinkState, Reply, answers, is_upload, piece, begins_to_send, upload_request, answered, cut}
+use Rattle.link_model.specs.declared.services.TheConstants.{UPLOAD_REQUEST}
+use Rattle.link_model.specs.Answers.{LinkState, Reply, answers, is_upload, piece, begins_to_send, answered, cut}
 use Rattle.link_model.specs.Answers as states
 use Rattle.message_model.specs.Messages.{Message, IsMessage, message_bytes, content_of}
 use Rattle.message_model.specs.Sending.{message_of, content_sent, unit_file}
@@ -231,8 +232,8 @@ module _ (x : List ℕ) (can : CanBeLoaded x) where
       step_by unit states.Diagnostic (record { stage = Diagnostic; end = end; bytes = bytes }) (at_stage end Upload) out (0x10 ∷ 0x81 ∷ []) (0x50 ∷ 0x81 ∷ []) [] refl
       (ap (λ (u : LinkState). answered messages u (Right (0x10 ∷ 0x81 ∷ []))) together.0) (inl (refl, refl)) refl whole (refl, refl) (begun_few bytes (0x50 ∷ 0x81 ∷ []) together.1 (omega arith))
   step unit Upload end bytes out open_ whole together =
-      step_by unit states.Upload (record { stage = Upload; end = end; bytes = bytes }) (at_stage end (Asked AskOverview)) out upload_request (0x75 ∷ 0x00 ∷ 0xFF ∷ []) [] refl
-      (ap (λ (u : LinkState). answered messages u (Right upload_request)) together.0) (inl (refl, refl)) refl whole (refl, tt, refl) (begun_few bytes (0x75 ∷ 0x00 ∷ 0xFF ∷ []) together.1 (omega arith))
+      step_by unit states.Upload (record { stage = Upload; end = end; bytes = bytes }) (at_stage end (Asked AskOverview)) out UPLOAD_REQUEST (0x75 ∷ 0x00 ∷ 0xFF ∷ []) [] refl
+      (ap (λ (u : LinkState). answered messages u (Right UPLOAD_REQUEST)) together.0) (inl (refl, refl)) refl whole (refl, tt, refl) (begun_few bytes (0x75 ∷ 0x00 ∷ 0xFF ∷ []) together.1 (omega arith))
   step unit (Asked request) end bytes out open_ whole together =
       subst (λ (b : List ℕ). Step (talk_of unit (record { stage = Asked request; end = end; bytes = b }) out)) (sym together.2)
       (request_step unit request end out (message_of x request) together.0 together.1 refl whole)

@@ -5,6 +5,7 @@ use Rattle.std.specs.Io.KnownBytes.{Keeps}
 use Rattle.tach_media.specs.Medium.{Rose}
 use Rattle.tach_media.specs.Streams.{AppendsFront}
 use Rattle.link_model.specs.declared.request.Request.{Request}
+use Rattle.link_model.specs.declared.lengths.TheConstants.{FRAME_MOST}
 use Rattle.message_model.specs.Messages.{Message, IsMessage, message_bytes}
 use Rattle.unit_messages.specs.Reading.{request_of}
 use Rattle.unit_messages.specs.Joining.{Joined, wanted, begun_with}
@@ -45,7 +46,7 @@ over now = at_stage now.end Finished
 abbrev pub with_piece : List ℕ → (frame : List ℕ) → List ℕ
 with_piece bytes frame = begun_with bytes frame ++ drop 4 frame
 
--- a piece that another one follows has 255 bytes, and the next one is acknowledged by its counter
+-- a piece that another one follows fills its frame, and the next one is acknowledged by its counter
 abbrev pub continued : Loading → Request → (frame : List ℕ) → Loading
 continued now request frame =
     record {
@@ -59,18 +60,21 @@ abbrev pub goes_on_by : Loading → (frame : List ℕ) → Kind → Option Loadi
 goes_on_by now frame (Negative service code) = option_map (at_stage now.end)
     (passed_over now.end now.stage service code)
 goes_on_by now frame Agreed = Some (at_stage now.end (behind_answer now.stage))
-goes_on_by now frame (Piece request) = if length frame == 255 then Some (continued now request frame) else None
+goes_on_by now frame (Piece request) = if length frame == FRAME_MOST then Some (continued now request frame) else None
 goes_on_by now frame kind = None
 
+-- behind any frame that neither finishes a message nor is refused
 abbrev pub goes_on : Loading → (frame : List ℕ) → Option Loading
 goes_on now frame = goes_on_by now frame (kind_of now.stage frame)
 
 -- the message that a frame of this kind closes: what was asked for, and all its bytes
 abbrev pub closed_by : Loading → (frame : List ℕ) → Kind → Option (Request × List ℕ)
-closed_by now frame (Piece request) = if length frame == 255 then None else Some (request, with_piece now.bytes frame)
+closed_by now frame (Piece request) =
+    if length frame == FRAME_MOST then None else Some (request, with_piece now.bytes frame)
 closed_by now frame (Single request) = Some (request, frame)
 closed_by now frame kind = None
 
+-- the message that a frame closes, if any
 abbrev pub closed : Loading → (frame : List ℕ) → Option (Request × List ℕ)
 closed now frame = closed_by now frame (kind_of now.stage frame)
 
@@ -80,6 +84,7 @@ pub record IsAnswer (request : Request) (bytes : List ℕ) (m : Message) : Type 
   pub spelled : bytes ≡ message_bytes m
   pub asked : request ≡ request_of m
 
+-- the bytes are no message of the grammar that answers the request
 abbrev pub AnswersNone : Request → List ℕ → Type 0
 AnswersNone request bytes = (m : Message) → IsAnswer request bytes m → ⊥
 
@@ -90,10 +95,11 @@ pub record Finishes (now : Loading) (frame : List ℕ) (m : Message) : Type 0 wh
   pub closes : closed now frame ≡ Some (request, bytes)
   pub answer : IsAnswer request bytes m
 
--- behind a message
+-- what is sent behind a message, and the period's end
 abbrev pub next_of : (end : ℕ) → Message → Next
 next_of end m = record { stage = behind_message end m; end = end_told end m }
 
+-- a download behind a message
 abbrev pub after_message : Loading → Message → Loading
 after_message now m = at_stage (end_told now.end m) (behind_message now.end m)
 

@@ -5,7 +5,11 @@ use Rattle.std.specs.Prelude.{Some, None}
 use Rattle.byteorder.specs.Endian.{big_bytes}
 use Rattle.link_model.specs.declared.request.Request.{Request}
 use Rattle.link_model.specs.declared.request.Request.TheVariants.{Overview, Day, Events, Speed, Technical}
-use Rattle.link_model.specs.Answers.{number_of, upload_request}
+use Rattle.link_model.specs.declared.services.TheConstants.{START_COMMUNICATION, STOP_COMMUNICATION, START_DIAGNOSTIC}
+use Rattle.link_model.specs.declared.services.TheConstants.{DIAGNOSTIC_SESSION, UPLOAD_REQUEST, TRANSFER_DATA}
+use Rattle.link_model.specs.declared.services.TheConstants.{TRANSFER_EXIT, ACKNOWLEDGE, MESSAGE, DATA_NOT_AVAILABLE}
+use Rattle.link_model.specs.declared.services.TheConstants.{DAY_NUMBER, DAY_SECONDS}
+use Rattle.link_model.specs.Answers.{number_of}
 use Rattle.message_model.specs.Messages.{Message, AnOverview, ADay, AnEventList, ASpeedList, ATechnical}
 use Rattle.link_loader.specs.declared.stage.Stage.{Stage}
 use Rattle.link_loader.specs.declared.stage.Stage.TheVariants.{Start, Diagnostic, Upload, Asked, Acknowledged, Exit}
@@ -13,22 +17,22 @@ use Rattle.link_loader.specs.declared.stage.Stage.TheVariants.{Stop, Finished}
 
 -- a request names its message by the number, and a day by its first second too
 abbrev pub request_bytes : Request → List ℕ
-request_bytes (Day second) = 0x36 ∷ 2 ∷ big_bytes 4 second
-request_bytes request = 0x36 ∷ number_of request ∷ []
+request_bytes (Day second) = TRANSFER_DATA ∷ DAY_NUMBER ∷ big_bytes 4 second
+request_bytes request = TRANSFER_DATA ∷ number_of request ∷ []
 
 -- a piece is acknowledged by the counter of the next one
 abbrev pub acknowledgement : (counter : ℕ) → List ℕ
-acknowledgement counter = 0x83 ∷ 0x76 ∷ counter / 256 ∷ counter % 256 ∷ []
+acknowledgement counter = ACKNOWLEDGE ∷ MESSAGE ∷ counter / 256 ∷ counter % 256 ∷ []
 
 -- what is sent at a stage; nothing once the download is over
 abbrev pub sent_at : Stage → Option (List ℕ)
-sent_at Start = Some (0x81 ∷ [])
-sent_at Diagnostic = Some (0x10 ∷ 0x81 ∷ [])
-sent_at Upload = Some upload_request
+sent_at Start = Some (START_COMMUNICATION ∷ [])
+sent_at Diagnostic = Some (START_DIAGNOSTIC ∷ DIAGNOSTIC_SESSION ∷ [])
+sent_at Upload = Some UPLOAD_REQUEST
 sent_at (Asked request) = Some (request_bytes request)
 sent_at (Acknowledged request counter) = Some (acknowledgement counter)
-sent_at Exit = Some (0x37 ∷ [])
-sent_at Stop = Some (0x82 ∷ [])
+sent_at Exit = Some (TRANSFER_EXIT ∷ [])
+sent_at Stop = Some (STOP_COMMUNICATION ∷ [])
 sent_at Finished = None
 
 -- the first day of a period is asked for, if it has one: 0 stands for none
@@ -37,7 +41,8 @@ first_day begin end = if begin == 0 || nat_lt end begin then Asked Events else A
 
 -- the day behind the one that begins at this second, up to the period's end
 abbrev pub next_day : (second end : ℕ) → Stage
-next_day second end = if nat_le (second + 86400) end then Asked (Day (second + 86400)) else Asked Events
+next_day second end =
+    if nat_le (second + DAY_SECONDS) end then Asked (Day (second + DAY_SECONDS)) else Asked Events
 
 -- what is asked for behind a message: behind the overview the first day of the period that it tells
 abbrev pub behind_message : (end : ℕ) → Message → Stage
@@ -63,7 +68,8 @@ behind_lack end request = None
 
 -- so a negative answer is passed over: to the request of such a message, by the code that there is none
 abbrev pub passed_over : (end : ℕ) → Stage → (service code : ℕ) → Option Stage
-passed_over end (Asked request) service code = if service == 0x36 && code == 0xFA then behind_lack end request else None
+passed_over end (Asked request) service code =
+    if service == TRANSFER_DATA && code == DATA_NOT_AVAILABLE then behind_lack end request else None
 passed_over end stage service code = None
 
 -- what is sent behind the positive answer to what asks for no message

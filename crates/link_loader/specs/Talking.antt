@@ -2,6 +2,7 @@
 use Rattle.std.specs.Prelude.{◌≡◌, ℕ, ◌*◌, ◌%◌, ◌<◌, ◌≤◌, ◌^◌, List, [], ◌∷◌, ◌++◌, length, Option, Some, IfSome}
 use Rattle.card_layout.specs.Fields.{IsBytes}
 use Rattle.link_model.specs.declared.request.Request.{Request}
+use Rattle.link_model.specs.declared.services.TheConstants.{DAY_SECONDS}
 use Rattle.link_model.specs.Frames.{Right}
 use Rattle.link_model.specs.Answers.{LinkState, Idle, answered}
 use Rattle.unit_model.specs.declared.layout.TheConstants.{IMAGE_SIZE}
@@ -20,6 +21,7 @@ pub record Talk : Type 0 where
   pub loader : Loading
   pub out : List ℕ
 
+-- nothing has passed yet
 abbrev pub fresh_talk : Talk
 fresh_talk = record { unit = Idle; loader = begun; out = [] }
 
@@ -41,7 +43,7 @@ Talks messages (frame ∷ frames) old new = (mid : Talk) × Exchanges messages o
 -- each of these days is a day's first second, and begins by this one
 abbrev pub AreDays : (end : ℕ) → List StoredDay → Type 0
 AreDays end [] = Unit {0}
-AreDays end (d ∷ ds) = (d.date % 86400 ≡ 0) × (d.date ≤ end) × AreDays end ds
+AreDays end (d ∷ ds) = (d.date % DAY_SECONDS ≡ 0) × (d.date ≤ end) × AreDays end ds
 
 -- the image of a unit: as many bytes as a unit has, and it decodes
 pub record IsUnitImage (x : List ℕ) : Type 0 where

@@ -1,3 +1,4 @@
+//! The loader's side of a download: where it stands, the frame to send, and what a frame that comes does.
 ghost use Rattle.std.specs.Prelude.{◌≡◌, ◌≤◌, ◌<◌, ℕ, List, length, Some, None, IfNone, IfOk, OnOk};
 ghost use Rattle.std.specs.Prelude.{IfErr, OnErr, IsErrOf};
 ghost use Rattle.std.specs.Io.KnownBytes.{Appends};
@@ -105,7 +106,7 @@ impl Downloader {
         self.take_kind(kind, frame, sink)
     }
 
-    // Takes a frame of this kind.
+    /// Takes a frame of this kind.
     fn take_kind<K: Sink>(
         &mut self,
         kind: Kind,
@@ -143,7 +144,7 @@ impl Downloader {
         }
     }
 
-    // At this stage, with no bytes of a message.
+    /// At this stage, with no bytes of a message.
     fn go_to(&mut self, stage: Stage)
         requires { counter_at stage ≡ 1 }
         ensures { self.new ≡ record { loading = at_stage self.old.loading.end stage; room = self.old.room } }
@@ -152,7 +153,7 @@ impl Downloader {
         self.stage = stage;
     }
 
-    // A negative answer, which may be passed over.
+    /// A negative answer, which may be passed over.
     fn pass_over(&mut self, service: u8, code: u8) -> Result<(), LoadFault>
         ensures passed { OnOk result ((stage : Stage)
             × (passed_over self.old.loading.end self.old.loading.stage service code ≡ Some stage)
@@ -170,7 +171,7 @@ impl Downloader {
         Ok(())
     }
 
-    // The positive answer to what asks for no message came.
+    /// The positive answer to what asks for no message came.
     fn agree(&mut self)
         ensures { self.new ≡ record {
           loading = at_stage self.old.loading.end (behind_answer self.old.loading.stage);
@@ -181,7 +182,7 @@ impl Downloader {
         self.go_to(stage);
     }
 
-    // The wanted piece of a message.
+    /// The wanted piece of a message.
     fn join<K: Sink>(
         &mut self,
         request: Request,
@@ -211,7 +212,7 @@ impl Downloader {
         }
     }
 
-    // The wanted piece is joined.
+    /// The wanted piece is joined.
     fn add_piece(&mut self, request: Request, frame: &Frame) -> Result<(), Memory>
         requires some { 4 ≤ length frame.now }
         requires order { counter_in frame.now ≡ counter_at self.old.loading.stage }
@@ -226,7 +227,7 @@ impl Downloader {
         Ok(())
     }
 
-    // All pieces of a message have come.
+    /// All pieces of a message have come.
     fn finish_joined<K: Sink>(&mut self, request: Request, sink: &mut K) -> Result<(), LoadFault>
         ensures put { OnOk result ((m : Message) × IsAnswer request self.old.loading.bytes m
             × (self.new.loading ≡ after_message self.old.loading m)
@@ -242,7 +243,7 @@ impl Downloader {
         self.settle(put)
     }
 
-    // A message in one frame.
+    /// A message in one frame.
     fn finish<K: Sink>(
         &mut self,
         request: Request,
@@ -262,7 +263,7 @@ impl Downloader {
         self.settle(put)
     }
 
-    // A message went out, or did not.
+    /// A message went out, or did not.
     fn settle(&mut self, put: Result<Next, LoadFault>) -> Result<(), LoadFault>
         requires { IfOk put (λ next. counter_at next.stage ≡ 1) }
         ensures ok { OnOk result ((next : Next) × (put ≡ Ok next) × (self.new.loading ≡ at_stage next.end next.stage)) }
@@ -284,7 +285,7 @@ impl Downloader {
     }
 }
 
-// Joins the wanted piece.
+/// Joins the wanted piece.
 fn join_piece(joiner: &mut Joiner, frame: &Frame) -> Result<(), Memory>
     requires some { 4 ≤ length frame.now }
     requires order { counter_in frame.now ≡ wanted joiner.old }

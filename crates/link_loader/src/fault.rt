@@ -1,3 +1,5 @@
+//! Why a download ends before it is finished.
+
 /// Why a frame was not taken.
 #[derive(Clone, Copy, Debug, PartialEq, Eq)]
 pub enum LoadFault {
@@ -9,5 +11,6 @@ pub enum LoadFault {
     Broken(u16, u16),
     /// The sink failed.
     WriteFault,
+    /// There is no memory for a piece: the frame can be taken again.
     Memory,
 }

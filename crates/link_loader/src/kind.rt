@@ -6,16 +6,20 @@ ghost use Rattle.link_loader.specs.Stages.{counter_at};
 ghost use Rattle.link_loader.specs.Coming.{begins_as, piece_kind, request_kind, acknowledgement_kind, answer_kind};
 ghost use Rattle.link_loader.specs.Coming.{kind_at, kind_of, IsInOrder};
 
-use crate::stage::{MESSAGE, Stage};
+use crate::stage::Stage;
+use byteorder::{BigEndian, ByteOrder};
+use link_model::lengths::FRAME_MOST;
+use link_model::services::{
+    COMMUNICATION_STARTED, COMMUNICATION_STOPPED, DIAGNOSTIC_STARTED, MESSAGE, REFUSAL,
+    TRANSFER_EXITED, UPLOAD_ACCEPTED,
+};
 use link_model::{Request, number_of};
 
-/// The length of a piece that another one follows.
-pub const FULL: usize = 255;
+/// The length of a piece that another one follows: it fills its frame.
+pub const FULL: usize = FRAME_MOST as usize;
 
-/// How many bytes stand in a piece before those of the message.
+/// How many bytes stand in a piece before those of the message: 76, the number, and the counter of two bytes.
 pub const FRONT: usize = 4;
-
-const REFUSAL: u8 = 0x7F;
 
 /// What a frame is.
 #[derive(Clone, Copy, Debug, PartialEq, Eq)]
@@ -30,6 +34,7 @@ pub enum Kind {
     Piece(Request),
     /// What may be this message in one frame.
     Single(Request),
+    /// Any other frame: it is no answer to what was sent.
     Other,
 }
 
@@ -44,24 +49,24 @@ pub fn kind_of(stage: Stage, frame: &[u8]) -> Kind
     kind_at(stage, frame)
 }
 
-// The same of a frame that is no negative answer.
+/// The same of a frame that is no negative answer.
 fn kind_at(stage: Stage, frame: &[u8]) -> Kind
     ensures kind { result ≡ kind_at stage frame.now }
     ensures order { IsInOrder (counter_at stage) frame.now result }
 {
     match stage {
-        Stage::Start => answer_kind(&[0xC1, 0xEA, 0x8F], frame),
-        Stage::Diagnostic => answer_kind(&[0x50, 0x81], frame),
-        Stage::Upload => answer_kind(&[0x75, 0x00, 0xFF], frame),
+        Stage::Start => answer_kind(&COMMUNICATION_STARTED, frame),
+        Stage::Diagnostic => answer_kind(&DIAGNOSTIC_STARTED, frame),
+        Stage::Upload => answer_kind(&UPLOAD_ACCEPTED, frame),
         Stage::Asked(request) => request_kind(request, frame),
         Stage::Acknowledged(request, counter) => acknowledgement_kind(request, counter, frame),
-        Stage::Exit => answer_kind(&[0x77], frame),
-        Stage::Stop => answer_kind(&[0xC2], frame),
+        Stage::Exit => answer_kind(&TRANSFER_EXITED, frame),
+        Stage::Stop => answer_kind(&COMMUNICATION_STOPPED, frame),
         Stage::Finished => Kind::Other,
     }
 }
 
-// Where no message was asked for there is one positive answer.
+/// Where no message was asked for there is one positive answer.
 fn answer_kind(answer: &[u8], frame: &[u8]) -> Kind
     ensures kind { result ≡ answer_kind answer.now frame.now }
     ensures order { (wanted : ℕ) → IsInOrder wanted frame.now result }
@@ -73,7 +78,7 @@ fn answer_kind(answer: &[u8], frame: &[u8]) -> Kind
     }
 }
 
-// The answer to the request of a message.
+/// The answer to the request of a message.
 fn request_kind(request: Request, frame: &[u8]) -> Kind
     ensures kind { result ≡ request_kind request frame.now }
     ensures order { IsInOrder 1 frame.now result }
@@ -87,7 +92,7 @@ fn request_kind(request: Request, frame: &[u8]) -> Kind
     Kind::Other
 }
 
-// The answer to an acknowledgement.
+/// The answer to an acknowledgement.
 fn acknowledgement_kind(request: Request, wanted: u16, frame: &[u8]) -> Kind
     ensures kind { result ≡ acknowledgement_kind request wanted frame.now }
     ensures order { IsInOrder wanted frame.now result }
@@ -98,7 +103,7 @@ fn acknowledgement_kind(request: Request, wanted: u16, frame: &[u8]) -> Kind
     Kind::Other
 }
 
-// A piece, by its counter.
+/// A piece, by its counter.
 fn piece_kind(request: Request, wanted: u16, frame: &[u8]) -> Kind
     requires { 4 ≤ length frame.now }
     ensures kind { result ≡ piece_kind request wanted (counter_in frame.now) }
@@ -111,7 +116,7 @@ fn piece_kind(request: Request, wanted: u16, frame: &[u8]) -> Kind
     Kind::Broken(wanted, counter)
 }
 
-// 76 and the number stand in front.
+/// 76 and the number stand in front.
 fn begins_as(request: Request, frame: &[u8]) -> bool
     requires { 2 ≤ length frame.now }
     ensures { result ≡ begins_as request frame.now }
@@ -120,10 +125,10 @@ fn begins_as(request: Request, frame: &[u8]) -> bool
     frame[0] == MESSAGE && frame[1] == number
 }
 
-// The counter of a piece.
+/// The counter of a piece.
 fn counter_in(frame: &[u8]) -> u16
     requires { 4 ≤ length frame.now }
     ensures { result ≡ counter_in frame.now }
 {
-    u16::from_be_bytes([frame[2], frame[3]])
+    BigEndian::read_u16(&frame[2..FRONT])
 }

@@ -1,3 +1,4 @@
+//! What holds of a download: laws, which are functions without a body.
 ghost use Rattle.std.specs.Prelude.{◌≡◌, ◌≢◌, ◌≤◌, ℕ, ◌++◌, List, length};
 ghost use Rattle.message_model.specs.Messages.{IsUnitFile};
 ghost use Rattle.message_model.specs.Sending.{content_sent, messages_of, unit_file};

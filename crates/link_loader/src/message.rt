@@ -42,7 +42,7 @@ pub fn put_message<K: Sink>(
     Ok(next)
 }
 
-// What is sent behind the message that these bytes are; `None` where they are none that answers the request.
+/// What is sent behind the message that these bytes are; `None` where they are none that answers the request.
 fn behind(request: Request, end: u32, bytes: &[u8]) -> Option<Next>
     ensures some { IfSome result (λ next. (m : Message) × IsAnswer request bytes.now m × (next ≡ next_of end m)) }
     ensures first { IfSome result (λ next. counter_at next.stage ≡ 1) }
@@ -54,7 +54,7 @@ fn behind(request: Request, end: u32, bytes: &[u8]) -> Option<Next>
     Some(behind_answer(request, end, bytes))
 }
 
-// Whether the bytes are a message that answers the request.
+/// Whether the bytes are a message that answers the request.
 fn is_answer(request: Request, bytes: &[u8]) -> bool
     ensures yes { result ≡ true → (m : Message) × IsAnswer request bytes.now m }
     ensures no { result ≡ false → AnswersNone request bytes.now }
@@ -65,7 +65,7 @@ fn is_answer(request: Request, bytes: &[u8]) -> bool
     }
 }
 
-// What is sent behind a message.
+/// What is sent behind a message.
 fn behind_answer(request: Request, end: u32, bytes: &[u8]) -> Next
     requires { (m : Message) × IsAnswer request bytes.now m }
     ensures next { (m : Message) × IsAnswer request bytes.now m × (result ≡ next_of end m) }
@@ -92,7 +92,7 @@ fn behind_answer(request: Request, end: u32, bytes: &[u8]) -> Next
     }
 }
 
-// What is sent behind an overview.
+/// What is sent behind an overview.
 fn behind_overview(bytes: &[u8]) -> Next
     requires { (m : Message) × IsAnswer Request.Overview bytes.now m }
     ensures next { (end : ℕ) → (m : Message) × IsAnswer Request.Overview bytes.now m × (result ≡ next_of end m) }

@@ -5,28 +5,12 @@ ghost use Rattle.link_loader.specs.Stages.{sent_at, request_bytes, acknowledgeme
 ghost use Rattle.link_loader.specs.Stages.{passed_over, behind_answer, counter_at};
 
 use link_frames::Frame;
-use link_model::Request;
-
-const START: u8 = 0x81;
-
-const STOP: u8 = 0x82;
-
-const EXIT: u8 = 0x37;
-
-const ACKNOWLEDGE: u8 = 0x83;
-
-/// The service of a request of a message.
-const TRANSFER: u8 = 0x36;
-
-/// The code of a message that there is not.
-const NO_MESSAGE: u8 = 0xFA;
-
-/// The first byte of a message, and of a piece of one.
-pub const MESSAGE: u8 = 0x76;
-
-const SECONDS_OF_DAY: u32 = 86400;
-
-const UPLOAD_REQUEST: [u8; 10] = [0x35, 0x00, 0x00, 0x00, 0x00, 0x00, 0xFF, 0xFF, 0xFF, 0xFF];
+use link_model::services::{
+    ACKNOWLEDGE, DATA_NOT_AVAILABLE, DAY_NUMBER, DAY_SECONDS, DIAGNOSTIC_SESSION, MESSAGE,
+    START_COMMUNICATION, START_DIAGNOSTIC, STOP_COMMUNICATION, TRANSFER_DATA, TRANSFER_EXIT,
+    UPLOAD_REQUEST,
+};
+use link_model::{Request, number_of};
 
 /// Where a download stands: what was sent, to which the answer has not come yet.
 #[derive(Clone, Copy, Debug, PartialEq, Eq)]
@@ -52,7 +36,9 @@ pub enum Stage {
 /// What is sent behind a message, and the end of the period that is downloaded.
 #[derive(Clone, Copy, Debug, PartialEq, Eq)]
 pub struct Next {
+    /// The stage at which the next frame is sent.
     pub stage: Stage,
+    /// The end of the period in seconds, as the overview told it; 0 before it has come.
     pub end: u32,
 }
 
@@ -61,39 +47,38 @@ pub fn sent_at(stage: Stage) -> Option<Frame>
     ensures { result ≡ sent_at stage }
 {
     match stage {
-        Stage::Start => Some(Frame::new(&[START])),
-        Stage::Diagnostic => Some(Frame::new(&[0x10, 0x81])),
+        Stage::Start => Some(Frame::new(&[START_COMMUNICATION])),
+        Stage::Diagnostic => Some(Frame::new(&[START_DIAGNOSTIC, DIAGNOSTIC_SESSION])),
         Stage::Upload => Some(Frame::new(&UPLOAD_REQUEST)),
         Stage::Asked(request) => Some(request_frame(request)),
         Stage::Acknowledged(_, counter) => Some(acknowledgement(counter)),
-        Stage::Exit => Some(Frame::new(&[EXIT])),
-        Stage::Stop => Some(Frame::new(&[STOP])),
+        Stage::Exit => Some(Frame::new(&[TRANSFER_EXIT])),
+        Stage::Stop => Some(Frame::new(&[STOP_COMMUNICATION])),
         Stage::Finished => None,
     }
 }
 
-// The request of a message.
+/// The request of a message.
 fn request_frame(request: Request) -> Frame
     ensures { result ≡ request_bytes request }
 {
     match request {
-        Request::Overview => Frame::new(&[TRANSFER, 1]),
         Request::Day(second) => day_frame(second),
-        Request::Events => Frame::new(&[TRANSFER, 3]),
-        Request::Speed => Frame::new(&[TRANSFER, 4]),
-        Request::Technical => Frame::new(&[TRANSFER, 5]),
+        Request::Overview | Request::Events | Request::Speed | Request::Technical => {
+            Frame::new(&[TRANSFER_DATA, number_of(request)])
+        }
     }
 }
 
-// The request of the day that begins at this second.
+/// The request of the day that begins at this second.
 fn day_frame(second: u32) -> Frame
     ensures { result ≡ request_bytes (Request.Day second) }
 {
     let [first, next, third, last] = second.to_be_bytes();
-    Frame::new(&[TRANSFER, 2, first, next, third, last])
+    Frame::new(&[TRANSFER_DATA, DAY_NUMBER, first, next, third, last])
 }
 
-// The piece before the one of this counter is acknowledged.
+/// The piece before the one of this counter is acknowledged.
 fn acknowledgement(counter: u16) -> Frame
     ensures { result ≡ acknowledgement counter }
 {
@@ -117,8 +102,8 @@ pub fn next_day(second: u32, end: u32) -> Stage
     ensures stage { result ≡ next_day second end }
     ensures first { counter_at result ≡ 1 }
 {
-    if second as u64 + SECONDS_OF_DAY as u64 <= end as u64 {
-        return Stage::Asked(Request::Day(second + SECONDS_OF_DAY));
+    if second as u64 + DAY_SECONDS as u64 <= end as u64 {
+        return Stage::Asked(Request::Day(second + DAY_SECONDS));
     }
     Stage::Asked(Request::Events)
 }
@@ -146,12 +131,12 @@ pub fn passed_over(end: u32, stage: Stage, service: u8, code: u8) -> Option<Stag
     }
 }
 
-// The same where a message was asked for.
+/// The same where a message was asked for.
 fn lack_passed_over(end: u32, request: Request, service: u8, code: u8) -> Option<Stage>
     ensures stage { result ≡ passed_over end (Stage.Asked request) service code }
     ensures first { IfSome result (λ stage. counter_at stage ≡ 1) }
 {
-    if service == TRANSFER && code == NO_MESSAGE {
+    if service == TRANSFER_DATA && code == DATA_NOT_AVAILABLE {
         return behind_lack(end, request);
     }
     None

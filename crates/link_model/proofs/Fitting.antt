@@ -3,8 +3,9 @@ use Rattle.std.proofs.Common.{ℕ, ◌+◌, ◌-◌, ◌*◌, ◌≤◌, ◌==�
 use Rattle.std.proofs.lemmas.Bool.{cond_both, leb-true}
 use Rattle.std.proofs.lemmas.List.{length-take}
 use Rattle.link_model.specs.declared.request.Request.{Request}
+use Rattle.link_model.specs.declared.services.TheConstants.{UPLOAD_REQUEST}
 use Rattle.link_model.specs.Frames.{Heard, Right, Wrong}
-use Rattle.link_model.specs.Answers.{LinkState, Idle, Started, Diagnostic, Upload, Sending, Reply, answers, silent, refuses, Check, check, checked, number_of, piece, has_piece, begins_to_send, begins_if_any, request_in, transfer_checks, acknowledge_checks, is_diagnostic, is_upload, sends_on, code_in, after_piece, upload_request, served, idle, active, answered, Fits}
+use Rattle.link_model.specs.Answers.{LinkState, Idle, Started, Diagnostic, Upload, Sending, Reply, answers, silent, refuses, Check, check, checked, number_of, piece, has_piece, begins_to_send, begins_if_any, request_in, transfer_checks, acknowledge_checks, is_diagnostic, is_upload, sends_on, code_in, after_piece, served, idle, active, answered, Fits}
 
 refused_fits : (state : LinkState) (service code : ℕ) → Fits (refuses state service code)
 refused_fits state service code = (omega arith, omega arith)
@@ -50,7 +51,7 @@ served_fits messages state bytes =
     or_else (slice_index bytes 0 == 0x81) _ _ (checked_fits state 0x81 (check (length bytes == 1) 0x13 ∷ []) (answers (0xC1 ∷ 0xEA ∷ 0x8F ∷ []) Started) (omega arith, omega arith))
     (or_else (slice_index bytes 0 == 0x82) _ _ (checked_fits state 0x82 (check (length bytes == 1) 0x13 ∷ []) (answers (0xC2 ∷ []) Idle) (omega arith, omega arith))
     (or_else (slice_index bytes 0 == 0x10) _ _ (checked_fits state 0x10 (check (length bytes == 2) 0x13 ∷ check (slice_index bytes 1 == 0x81) 0x12 ∷ []) (answers (0x50 ∷ 0x81 ∷ []) Diagnostic) (omega arith, omega arith))
-    (or_else (slice_index bytes 0 == 0x35) _ _ (checked_fits state 0x35 (check (length bytes == 10) 0x13 ∷ check (is_diagnostic state) 0x22 ∷ check (bytes_eq bytes upload_request) 0x50 ∷ []) (answers (0x75 ∷ 0x00 ∷ 0xFF ∷ []) Upload) (omega arith, omega arith))
+    (or_else (slice_index bytes 0 == 0x35) _ _ (checked_fits state 0x35 (check (length bytes == 10) 0x13 ∷ check (is_diagnostic state) 0x22 ∷ check (bytes_eq bytes UPLOAD_REQUEST) 0x50 ∷ []) (answers (0x75 ∷ 0x00 ∷ 0xFF ∷ []) Upload) (omega arith, omega arith))
     (or_else (slice_index bytes 0 == 0x36) _ _ (checked_fits state 0x36 (transfer_checks messages state bytes) (begins_if_any (request_in bytes) (messages (request_in bytes)) state) (begins_fits (request_in bytes) (messages (request_in bytes)) state))
     (or_else (slice_index bytes 0 == 0x37) _ _ (checked_fits state 0x37 (check (length bytes == 1) 0x13 ∷ check (is_upload state) 0x22 ∷ []) (answers (0x77 ∷ []) Diagnostic) (omega arith, omega arith))
     (or_else (slice_index bytes 0 == 0x83) _ _ (checked_fits state 0x83 (acknowledge_checks state bytes) (after_piece messages state (code_in bytes)) (after_fits messages state (code_in bytes)))

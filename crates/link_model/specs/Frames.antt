@@ -2,6 +2,7 @@
 use Rattle.std.specs.Prelude.{◌≡◌, ℕ, ◌%◌, ◌==◌, ◌<◌, if◌then◌else◌, List, [], ◌∷◌, ◌++◌, length, sum, slice_index}
 use Rattle.link_model.specs.declared.side.End.{End}
 use Rattle.link_model.specs.declared.side.End.TheVariants as side
+use Rattle.link_model.specs.declared.services.TheConstants.{LONG_FORM, SHORT_FORM, UNIT_ADDRESS, LOADER_ADDRESS}
 
 -- what a side hears: the data of a frame, or the first data byte of one whose sum is wrong
 pub data Heard : Type 0 where
@@ -13,23 +14,27 @@ pub data Shape : Type 0 where
   Long : List ℕ → ℕ → Shape
   Short : ℕ → ℕ → Shape
 
--- the two bytes behind the first: who listens, and who sends
+-- the second byte: who listens
 abbrev pub second : End → ℕ
-second side.Unit = 0xEE
-second side.Loader = 0xF0
+second side.Unit = UNIT_ADDRESS
+second side.Loader = LOADER_ADDRESS
 
+-- the third byte: who sends
 abbrev pub third : End → ℕ
-third side.Unit = 0xF0
-third side.Loader = 0xEE
+third side.Unit = LOADER_ADDRESS
+third side.Loader = UNIT_ADDRESS
 
+-- the bytes before the data; the long form ends with the length
 abbrev pub header : End → Shape → List ℕ
-header end (Long body last) = 0x80 ∷ second end ∷ third end ∷ length body ∷ []
-header end (Short byte last) = 0x81 ∷ second end ∷ third end ∷ []
+header end (Long body last) = LONG_FORM ∷ second end ∷ third end ∷ length body ∷ []
+header end (Short byte last) = SHORT_FORM ∷ second end ∷ third end ∷ []
 
+-- the data
 abbrev pub body_of : Shape → List ℕ
 body_of (Long body last) = body
 body_of (Short byte last) = byte ∷ []
 
+-- the byte for the sum
 abbrev pub last_of : Shape → ℕ
 last_of (Long body last) = last
 last_of (Short byte last) = last

@@ -3,12 +3,13 @@ use Rattle.std.specs.Prelude.{ℕ, ◌+◌, ◌==◌, ◌&&◌, ◌||◌, not, n
 use Rattle.std.specs.Prelude.{length, drop, slice_index, Option, Some, None, option_to_list}
 use Rattle.link_model.specs.declared.side.End.{End}
 use Rattle.link_model.specs.declared.side.End.TheVariants as side
+use Rattle.link_model.specs.declared.services.TheConstants.{LONG_FORM, SHORT_FORM}
 use Rattle.link_model.specs.Frames.{Heard, judged, second, third}
 
 -- a frame may begin with this byte
 abbrev pub starts : End → ℕ → Bool
-starts side.Unit byte = byte == 0x80 || byte == 0x81
-starts side.Loader byte = byte == 0x80
+starts side.Unit byte = byte == LONG_FORM || byte == SHORT_FORM
+starts side.Loader byte = byte == LONG_FORM
 
 -- the bytes are the beginning of a frame, or begin with one
 abbrev pub looks_right : End → List ℕ → Bool
@@ -17,16 +18,16 @@ looks_right end (a ∷ []) = starts end a
 looks_right end (a ∷ b ∷ []) = starts end a && b == second end
 looks_right end (a ∷ b ∷ c ∷ []) = starts end a && b == second end && c == third end
 looks_right end (a ∷ b ∷ c ∷ d ∷ more) = starts end a && b == second end && c == third end
-    && (a == 0x81 || not (d == 0))
+    && (a == SHORT_FORM || not (d == 0))
 
 -- how many bytes the frame has that begins so; none has fewer than five
 abbrev pub size_of : List ℕ → ℕ
-size_of (a ∷ b ∷ c ∷ d ∷ more) = if a == 0x81 then 5 else d + 5
+size_of (a ∷ b ∷ c ∷ d ∷ more) = if a == SHORT_FORM then 5 else d + 5
 size_of bytes = 5
 
 -- how many bytes stand before the data
 abbrev pub header_size : List ℕ → ℕ
-header_size bytes = if slice_index bytes 0 == 0x81 then 3 else 4
+header_size bytes = if slice_index bytes 0 == SHORT_FORM then 3 else 4
 
 -- a frame that has begun, of which a byte or more are to come
 abbrev pub is_kept : End → List ℕ → Bool
@@ -53,12 +54,13 @@ after_byte end kept byte =
     then record { kept = []; heard = Some (heard_at_last kept byte) }
     else record { kept = kept ++ byte ∷ []; heard = None }
 
--- what is heard in these bytes, and what is kept after them
+-- what is heard in these bytes, behind what is kept
 abbrev pub heard_in : End → List ℕ → List ℕ → List Heard
 heard_in end kept [] = []
 heard_in end kept (byte ∷ bytes) = option_to_list (after_byte end kept byte).heard
     ++ heard_in end (after_byte end kept byte).kept bytes
 
+-- what is kept behind these bytes
 abbrev pub kept_after : End → List ℕ → List ℕ → List ℕ
 kept_after end kept [] = kept
 kept_after end kept (byte ∷ bytes) = kept_after end (after_byte end kept byte).kept bytes

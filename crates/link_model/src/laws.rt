@@ -1,9 +1,11 @@
+//! What holds of the definitions of this crate: laws, which are functions without a body.
 ghost use Rattle.std.specs.Prelude.{◌≡◌, ◌+◌, false, ◌⊎◌, ◌<◌, ℕ, ◌++◌, ◌∷◌, List, [], length, Option};
 ghost use Rattle.std.specs.List.{concat};
 ghost use Rattle.link_model.specs.Frames.{Heard, Right, Shape, Stream, IsShape, spelled, body_of, heard_of, second};
 ghost use Rattle.link_model.specs.Frames.{third};
 ghost use Rattle.link_model.specs.Answers.{LinkState, Fits, answered, cuts, has_piece};
 ghost use Rattle.link_model.specs.declared.request.Request.{Request};
+ghost use Rattle.link_model.specs.declared.services.TheConstants.{SHORT_FORM};
 ghost use Rattle.link_model.specs.Hearing.{heard_in, kept_after, heard_in_pieces};
 ghost use Rattle.link_model.specs.Writing.{written_to, written_long, with_sum};
 
@@ -35,7 +37,7 @@ pub fn hears_what_is_written(end: End)
 pub fn writes_what_is_heard(end: End)
     ensures { (shape : Shape) (body : List ℕ) → IsShape end shape → heard_of end shape ≡ Right body
         → (spelled end shape ≡ written_long end (body_of shape))
-        ⊎ (spelled end shape ≡ with_sum (0x81 ∷ second end ∷ third end ∷ body_of shape)) }
+        ⊎ (spelled end shape ≡ with_sum (SHORT_FORM ∷ second end ∷ third end ∷ body_of shape)) }
 {}
 
 /// Each answer of a unit fits into a frame.

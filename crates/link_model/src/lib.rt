@@ -5,6 +5,7 @@
 mod laws;
 pub mod lengths;
 mod request;
+pub mod services;
 mod side;
 
 pub use laws::{

@@ -1,8 +1,12 @@
 -- How a service ends.
-use Rattle.std.specs.Prelude.{ℕ, ◌<◌, ◌≤◌, Bool, true, false, Option, List, [], length, take, Result, Ok, Err}
+use Rattle.std.specs.Prelude.{◌≡◌, ℕ, ◌<◌, ◌≤◌, Bool, true, false, Option, Some, List, [], length, take, Result, Ok}
+use Rattle.std.specs.Prelude.{Err, IfErr, IfSome}
 use Rattle.std.specs.List.{concat}
 use Rattle.std.specs.Io.KnownBytes.{Appends, Consumes}
+use Rattle.tach_media.specs.Medium.{State, Rose}
 use Rattle.tach_media.specs.Streams.{AppendsFront}
+use Rattle.unit_model.specs.Decoding.{first_bad_place}
+use Rattle.unit_minutes.specs.Reading.{ReadsIfAny}
 use Rattle.link_model.specs.declared.request.Request.{Request}
 use Rattle.link_model.specs.declared.side.End.TheVariants as side
 use Rattle.link_model.specs.Frames.{Heard}
@@ -80,3 +84,11 @@ has_failed (Err TooLong) = false
 abbrev pub fault_of : AnswerFault → ServeFault
 fault_of session.Failed = Failed
 fault_of (session.BadUnit place) = BadUnit place
+
+-- WHATEVER A CALL ON THE LINK ANSWERS: where it stops, the sink or the unit has failed, or the unit's image has this
+-- bad place; no count of the sink's faults falls; and the unit is read, if at all, and never written.
+pub record LinkGoes {T : Type 0} (result : Result T ServeFault) (old new : State) (before after : ℕ) : Type 0 where
+  pub cause : IfErr result (λ fault. IsCaused fault ⊥ (Rose before after)
+      (λ p. IfSome old.image (λ x. first_bad_place x ≡ Some p)))
+  pub counts : before ≤ after
+  pub unit : ReadsIfAny old new (has_failed result)

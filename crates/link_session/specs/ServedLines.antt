@@ -1,6 +1,6 @@
 -- How a service of lines ends.
 use Rattle.std.specs.Prelude.{◌≡◌, ◌≢◌, ◌⊎◌, ℕ, ◌+◌, ◌<◌, ◌≤◌, Bool, true, false, Option, Some, None, IfSome, List, []}
-use Rattle.std.specs.Prelude.{◌∷◌, ◌++◌, length, take, Result, Ok, Err}
+use Rattle.std.specs.Prelude.{◌∷◌, ◌++◌, length, take, Result, Ok, Err, IfErr}
 use Rattle.std.specs.Io.KnownBytes.{Appends, Consumes, IsAtEnd}
 use Rattle.text_fields.specs.Pieces.{pieces}
 use Rattle.text_fields.specs.Lines.{line_bytes}
@@ -18,6 +18,9 @@ use Rattle.link_session.specs.declared.fault.LinesFault.TheVariants.{Ended, BadL
 use Rattle.link_session.specs.declared.service.TheConstants.{MOST}
 use Rattle.link_session.specs.Lines.{listening, bytes_of, IsAnswered}
 use Rattle.link_session.specs.Served.{Stops}
+use Rattle.tach_media.specs.Medium.{State, Rose}
+use Rattle.unit_model.specs.Decoding.{first_bad_place}
+use Rattle.unit_minutes.specs.Reading.{ReadsIfAny}
 
 -- two texts' bytes one after the other, where both spell some
 abbrev pub joined : Option (List ℕ) → Option (List ℕ) → Option (List ℕ)
@@ -180,3 +183,11 @@ pub record StopsAmong (fault : LinesFault) (source : Type 0) (all : List (List �
   pub spell : bytes_in before ≡ Some bytes
   pub answered : IsAnswered HexLines messages state (heard_in side.Unit kept bytes) reached held mid
   pub stops : StopsAt fault messages reached (kept_after side.Unit kept bytes) line (whole + length before + 1) mid sunk
+
+-- WHATEVER A CALL ON LINES ANSWERS: where it stops, the sink, the unit or memory has failed, or a line spells no bytes,
+-- or the unit's image has this bad place; no count of the sink's faults falls; and the unit is read, if at all.
+pub record LinesGo {T : Type 0} (result : Result T LinesFault) (old new : State) (before after : ℕ) : Type 0 where
+  pub cause : IfErr result (λ fault. AreCaused fault ⊥ (Rose before after)
+      (λ p. IfSome old.image (λ x. first_bad_place x ≡ Some p)))
+  pub counts : before ≤ after
+  pub unit : ReadsIfAny old new (have_failed result)

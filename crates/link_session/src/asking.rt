@@ -38,16 +38,23 @@ impl From<Failed> for AnswerFault {
     }
 }
 
-/// A part of a message that was read: the message's length, with 76 and its number, where there is such a message; the
-/// bytes; and the message's outline.
+/// A part of a message that was read.
 #[derive(Drop)]
 pub struct Part {
+    /// The message's length in bytes, with 76 and its number, where there is such a message.
     pub told: Option<u32>,
+    /// The bytes of the part; none where there is no such message.
     pub bytes: ArrayVec<u8, MOST>,
+    /// The message's outline, where there is one.
     pub outline: Option<Outline>,
 }
 
 /// Judges the unit: the journal of one whose image decodes.
+///
+/// # Errors
+///
+/// `Failed` where the unit failed, and `BadUnit` with the place of the first field of its image, in order of places,
+/// that fails.
 pub fn judge<M: Medium>(unit: &mut M) -> Result<Journal, AnswerFault>
     requires unit { (M.state unit.old).size ≡ IMAGE_SIZE }
     ensures right { IfOk result (λ journal. IfSome (M.state unit.old).image (AreRight journal)) }
@@ -63,7 +70,12 @@ pub fn judge<M: Medium>(unit: &mut M) -> Result<Journal, AnswerFault>
     }
 }
 
-/// Reads a part of a message of a unit that was judged. The outline that is known may be this message's.
+/// Reads a part of a message of a unit that was judged: at most 252 bytes from a place on, which counts 76 and the
+/// number. The outline that is known may be this message's.
+///
+/// # Errors
+///
+/// `Failed` where the unit failed.
 pub fn part_of<M: Medium>(
     journal: &Journal,
     unit: &mut M,
@@ -101,7 +113,7 @@ pub fn part_of<M: Medium>(
     })
 }
 
-// The outline of a message; the one that is known where it is this message's.
+/// The outline of a message; the one that is known where it is this message's.
 fn outline_of<M: Medium>(
     journal: &Journal,
     unit: &mut M,

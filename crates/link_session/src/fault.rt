@@ -1,3 +1,4 @@
+//! Why a service ends before its source.
 use crate::AnswerFault;
 
 /// Why a service ended before its source.
@@ -11,7 +12,8 @@ pub enum ServeFault {
     Failed,
     /// The unit's image does not decode: the place of the first field, in order of places, that fails.
     BadUnit(u32),
-    /// More than 16777216 bytes came.
+    /// More came than is answered: of `serve` and `serve_lines` more than 16777216 bytes; of packet_service's
+    /// `serve_packets` a datagram of more than 264 bytes, or bytes at each of 4294967295 reads.
     TooLong,
 }
 

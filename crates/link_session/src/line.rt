@@ -1,5 +1,6 @@
+//! A unit on the link: the frames among the bytes that come, and their answers to the sink.
 ghost use Rattle.unit_model.specs.declared.layout.TheConstants.{IMAGE_SIZE};
-ghost use Rattle.std.specs.Prelude.{◌≡◌, ℕ, ◌≤◌, ◌<◌, [], ◌∷◌, IfOk, OnOk, OnErr, IfErr, IfSome, Some, List, length};
+ghost use Rattle.std.specs.Prelude.{◌≡◌, ◌≤◌, ◌<◌, [], ◌∷◌, IfOk, OnOk, OnErr, IfErr, IfSome, length};
 ghost use Rattle.std.specs.Prelude.{take};
 ghost use Rattle.tach_media.specs.Medium.{Rose};
 ghost use Rattle.link_model.specs.declared.side.End.TheVariants as side;
@@ -7,13 +8,11 @@ ghost use Rattle.link_model.specs.Hearing.{heard_in, kept_after};
 ghost use Rattle.link_model.specs.Answers.{Idle};
 ghost use Rattle.link_frames.specs.Seen.{meant};
 ghost use Rattle.message_model.specs.Sending.{content_sent};
-ghost use Rattle.unit_model.specs.Decoding.{first_bad_place};
-ghost use Rattle.unit_minutes.specs.Reading.{ReadsIfAny};
 ghost use Rattle.link_session.specs.Told.{Knows, fresh};
 ghost use Rattle.std.specs.Io.KnownBytes.{Appends};
 ghost use Rattle.tach_media.specs.Streams.{AppendsFront};
 ghost use Rattle.link_session.specs.Lines.{listening, spelled, IsAnswered};
-ghost use Rattle.link_session.specs.Served.{Stops, StopsWithin, has_failed, IsCaused};
+ghost use Rattle.link_session.specs.Served.{Stops, StopsWithin, LinkGoes};
 
 use crate::Session;
 use crate::fault::ServeFault;
@@ -21,17 +20,21 @@ use link_frames::{End, Frame, Scanner, Seen, write_frame};
 use tach_media::{Failed, Medium, Sink, put_all};
 use text_fields::write_line;
 
-/// How the answers go to the sink: byte for byte, or each as a line of hexadecimal digits.
+/// How the answers go to the sink.
 #[derive(Clone, Copy, Debug, PartialEq, Eq)]
 pub enum Spelling {
+    /// Byte for byte.
     Bytes,
+    /// Each as a line of hexadecimal digits.
     HexLines,
 }
 
-/// A unit on the link: what it hears, and where it stands.
+/// A unit on the link.
 #[derive(Drop)]
 pub struct Line {
+    /// What it hears: of a frame that has begun it keeps the bytes.
     pub scanner: Scanner,
+    /// Where it stands.
     pub session: Session,
 }
 
@@ -48,6 +51,11 @@ impl Line {
     }
 
     /// Answers the frames that end in these bytes.
+    ///
+    /// # Errors
+    ///
+    /// `WriteFault` after a front of the answers; `Failed` and `BadUnit` after the answers to the frames before one
+    /// whose answer hangs on the unit.
     pub fn answer<K: Sink, U: Medium>(
         &mut self,
         spelling: Spelling,
@@ -68,11 +76,7 @@ impl Line {
         ensures stops { IfErr result (λ fault. IfSome (U.state unit.old).image (λ x.
             Stops spelling fault (content_sent x) self.old.session.state
             (heard_in side.Unit self.old.scanner.kept bytes.now) (K.held sink.old) (K.held sink.new))) }
-        ensures cause { IfErr result (λ fault.
-            IsCaused fault ⊥ (Rose (K.faults sink.old) (K.faults sink.new))
-            (λ p. IfSome (U.state unit.old).image (λ x. first_bad_place x ≡ Some p))) }
-        ensures counts { K.faults sink.old ≤ K.faults sink.new }
-        ensures unit { ReadsIfAny (U.state unit.old) (U.state unit.new) (has_failed result) }
+        ensures goes { LinkGoes result (U.state unit.old) (U.state unit.new) (K.faults sink.old) (K.faults sink.new) }
     {
         let mut done = 0usize;
         while done < bytes.len() {
@@ -82,6 +86,11 @@ impl Line {
     }
 
     /// Answers the frames that end in these bytes, of which so many may come; where more come, those in the first.
+    ///
+    /// # Errors
+    ///
+    /// `WriteFault` after a front of the answers; `Failed` and `BadUnit` after the answers to the frames before one
+    /// whose answer hangs on the unit; `TooLong` after the answers to as many bytes as may come, where more came.
     pub fn answer_within<K: Sink, U: Medium>(
         &mut self,
         spelling: Spelling,
@@ -104,11 +113,7 @@ impl Line {
         ensures stops { IfErr result (λ fault. IfSome (U.state unit.old).image (λ x.
             StopsWithin spelling fault (content_sent x) self.old.session.state self.old.scanner.kept left bytes.now
             (K.held sink.old) (K.held sink.new))) }
-        ensures cause { IfErr result (λ fault.
-            IsCaused fault ⊥ (Rose (K.faults sink.old) (K.faults sink.new))
-            (λ p. IfSome (U.state unit.old).image (λ x. first_bad_place x ≡ Some p))) }
-        ensures counts { K.faults sink.old ≤ K.faults sink.new }
-        ensures unit { ReadsIfAny (U.state unit.old) (U.state unit.new) (has_failed result) }
+        ensures goes { LinkGoes result (U.state unit.old) (U.state unit.new) (K.faults sink.old) (K.faults sink.new) }
     {
         if bytes.len() <= left {
             return self.answer(spelling, bytes, sink, unit);
@@ -117,7 +122,7 @@ impl Line {
         Err(ServeFault::TooLong)
     }
 
-    // Takes bytes up to the end of the next frame, or all of them, answers the frame, and says how many it took.
+    /// Takes bytes up to the end of the next frame, or all of them, answers the frame, and says how many it took.
     fn answer_next<K: Sink, U: Medium>(
         &mut self,
         spelling: Spelling,
@@ -140,11 +145,7 @@ impl Line {
         ensures stops { IfErr result (λ fault. IfSome (U.state unit.old).image (λ x.
             Stops spelling fault (content_sent x) self.old.session.state
             (heard_in side.Unit self.old.scanner.kept bytes.now) (K.held sink.old) (K.held sink.new))) }
-        ensures cause { IfErr result (λ fault.
-            IsCaused fault ⊥ (Rose (K.faults sink.old) (K.faults sink.new))
-            (λ p. IfSome (U.state unit.old).image (λ x. first_bad_place x ≡ Some p))) }
-        ensures counts { K.faults sink.old ≤ K.faults sink.new }
-        ensures unit { ReadsIfAny (U.state unit.old) (U.state unit.new) (has_failed result) }
+        ensures goes { LinkGoes result (U.state unit.old) (U.state unit.new) (K.faults sink.old) (K.faults sink.new) }
     {
         let (taken, heard) = self.scanner.feed(bytes);
         let Some(seen) = heard else {
@@ -155,7 +156,7 @@ impl Line {
     }
 }
 
-// Answers a frame, if there is an answer to it.
+/// Answers a frame, if there is an answer to it.
 fn answer_frame<K: Sink, U: Medium>(
     spelling: Spelling,
     session: &mut Session,
@@ -172,11 +173,7 @@ fn answer_frame<K: Sink, U: Medium>(
     ensures stops { IfErr result (λ fault. IfSome (U.state unit.old).image (λ x.
         Stops spelling fault (content_sent x) session.old.state (meant seen.now ∷ []) (K.held sink.old)
         (K.held sink.new))) }
-    ensures cause { IfErr result (λ fault.
-        IsCaused fault ⊥ (Rose (K.faults sink.old) (K.faults sink.new))
-        (λ p. IfSome (U.state unit.old).image (λ x. first_bad_place x ≡ Some p))) }
-    ensures counts { K.faults sink.old ≤ K.faults sink.new }
-    ensures unit { ReadsIfAny (U.state unit.old) (U.state unit.new) (has_failed result) }
+    ensures goes { LinkGoes result (U.state unit.old) (U.state unit.new) (K.faults sink.old) (K.faults sink.new) }
 {
     let answer = session.answer(unit, seen)?;
     let Some(frame) = answer else {
@@ -188,7 +185,7 @@ fn answer_frame<K: Sink, U: Medium>(
     }
 }
 
-// Puts a frame into the sink, so spelled.
+/// Puts a frame into the sink, so spelled.
 fn put_frame<K: Sink>(spelling: Spelling, frame: &Frame, sink: &mut K) -> Result<(), Failed>
     ensures ok { OnOk result (Appends (K.held sink.old) (K.held sink.new) (spelled spelling frame.now)) }
     ensures err { OnErr result (AppendsFront (K.held sink.old) (K.held sink.new) (spelled spelling frame.now)) }

@@ -1,4 +1,5 @@
-ghost use Rattle.std.specs.Prelude.{◌≡◌, ℕ, ◌+◌, ◌≤◌, ◌<◌, ◌++◌, [], ◌∷◌, length, OnOk, OnErr, IfErr, IfSome, Some};
+//! The service of lines of hexadecimal digits: each line's bytes are heard, and each answer is a line.
+ghost use Rattle.std.specs.Prelude.{◌≡◌, ◌+◌, ◌≤◌, ◌<◌, ◌++◌, [], ◌∷◌, length, OnOk, IfErr, IfSome, Some};
 ghost use Rattle.std.specs.Io.KnownBytes.{IsAtEnd};
 ghost use Rattle.tach_media.specs.Medium.{Rose};
 ghost use Rattle.text_fields.specs.Pieces.{pieces};
@@ -11,7 +12,7 @@ ghost use Rattle.link_session.specs.Told.{Knows, fresh};
 ghost use Rattle.link_session.specs.declared.fault.LinesFault.TheVariants.{Memory};
 ghost use Rattle.link_session.specs.Lines.{listening};
 ghost use Rattle.link_session.specs.ServedLines.{AreServed, have_failed, AreCaused, AreHeard, IsHeard, StopsAt};
-ghost use Rattle.link_session.specs.ServedLines.{StopsAmong, WholeAnswered};
+ghost use Rattle.link_session.specs.ServedLines.{StopsAmong, WholeAnswered, LinesGo};
 ghost use Rattle.link_session.specs.Asked.{AnswersInTime};
 
 use crate::fault::{LinesFault, ServeFault};
@@ -22,17 +23,21 @@ use std::alloc::Global;
 use tach_media::{Medium, Sink};
 use text_fields::{LineFault, first_piece, read_line};
 
-/// A unit on the link that hears lines: what has come of the next one, and how many were whole.
+/// A unit on the link that hears lines.
 #[derive(Drop)]
 pub struct Lines {
+    /// From where the line that is read takes its memory.
     pub alloc: Global,
+    /// What it hears in the lines' bytes, and where it stands.
     pub line: Line,
+    /// What has come of the next line.
     pub text: Vec<u8>,
+    /// How many lines were whole.
     pub whole: u32,
 }
 
 impl Lines {
-    // Nothing has come yet.
+    /// Nothing has come yet.
     fn new(alloc: Global) -> Lines
         ensures scanner { result.line.scanner ≡ listening [] }
         ensures session { result.line.session ≡ fresh Idle }
@@ -47,7 +52,7 @@ impl Lines {
         }
     }
 
-    // What comes of the next line is kept.
+    /// What comes of the next line is kept.
     fn keep(&mut self, text: &[u8]) -> Result<(), LinesFault>
         ensures text { OnOk result (self.new.text.items ≡ self.old.text.items ++ text.now) }
         ensures line { self.new.line ≡ self.old.line }
@@ -60,7 +65,7 @@ impl Lines {
         Ok(())
     }
 
-    // The line that has begun ends: the frames that end in its bytes are answered.
+    /// The line that has begun ends: the frames that end in its bytes are answered.
     fn end_line<K: Sink, U: Medium>(&mut self, sink: &mut K, unit: &mut U) -> Result<(), LinesFault>
         requires unit { (U.state unit.old).size ≡ IMAGE_SIZE }
         requires room { self.old.whole < 4294967295 }
@@ -75,11 +80,7 @@ impl Lines {
         ensures stops { IfErr result (λ fault. IfSome (U.state unit.old).image (λ x.
             StopsAt fault (content_sent x) self.old.line.session.state self.old.line.scanner.kept self.old.text.items
             (self.old.whole + 1) (K.held sink.old) (K.held sink.new))) }
-        ensures cause { IfErr result (λ fault.
-            AreCaused fault ⊥ (Rose (K.faults sink.old) (K.faults sink.new))
-            (λ p. IfSome (U.state unit.old).image (λ x. first_bad_place x ≡ Some p))) }
-        ensures counts { K.faults sink.old ≤ K.faults sink.new }
-        ensures unit { ReadsIfAny (U.state unit.old) (U.state unit.new) (have_failed result) }
+        ensures goes { LinesGo result (U.state unit.old) (U.state unit.new) (K.faults sink.old) (K.faults sink.new) }
     {
         self.whole += 1;
         let bytes = match read_line(self.alloc, self.text.as_slice()) {
@@ -97,7 +98,7 @@ impl Lines {
         }
     }
 
-    // The lines that end in this text are answered, and what comes of the next one is kept.
+    /// The lines that end in this text are answered, and what comes of the next one is kept.
     fn take<K: Sink, U: Medium>(
         &mut self,
         text: &[u8],
@@ -118,11 +119,7 @@ impl Lines {
         ensures stops { IfErr result (λ fault. IfSome (U.state unit.old).image (λ x.
             StopsAmong fault ⊥ (pieces 10 (self.old.text.items ++ text.now)) (content_sent x) self.old.whole
             self.old.line.scanner.kept self.old.line.session.state (K.held sink.old) (K.held sink.new))) }
-        ensures cause { IfErr result (λ fault.
-            AreCaused fault ⊥ (Rose (K.faults sink.old) (K.faults sink.new))
-            (λ p. IfSome (U.state unit.old).image (λ x. first_bad_place x ≡ Some p))) }
-        ensures counts { K.faults sink.old ≤ K.faults sink.new }
-        ensures unit { ReadsIfAny (U.state unit.old) (U.state unit.new) (have_failed result) }
+        ensures goes { LinesGo result (U.state unit.old) (U.state unit.new) (K.faults sink.old) (K.faults sink.new) }
     {
         let (front, mut behind) = first_piece(text, b'\n');
         self.keep(front)?;

@@ -1,3 +1,4 @@
+//! A source whose other end waits for answers.
 ghost use Rattle.std.specs.Prelude.{List};
 ghost use Rattle.std.specs.declared.option.Option.{Option};
 ghost use Rattle.std.specs.Io.{ReadsAtMost};

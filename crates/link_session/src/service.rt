@@ -1,3 +1,4 @@
+//! The service of bytes: the frames of a source are answered until it ends.
 ghost use Rattle.unit_model.specs.declared.layout.TheConstants.{IMAGE_SIZE};
 ghost use Rattle.std.specs.Prelude.{◌≡◌, ◌≤◌, OnOk, IfErr, IfSome, Some};
 ghost use Rattle.std.specs.Io.KnownBytes.{Appends, IsAtEnd};
@@ -13,8 +14,8 @@ use crate::line::{Line, Spelling};
 use crate::peer::Peer;
 use tach_media::{Medium, Sink};
 
-/// The most bytes that a service answers.
-pub const MOST: u32 = 16777216;
+/// The most bytes of a source that a service of bytes or of lines answers.
+pub const MOST: u32 = 16_777_216;
 
 /// Answers the frames among the bytes of a source until it ends: each byte of the answers goes to the sink, and nothing
 /// else. The unit is read, and never written.

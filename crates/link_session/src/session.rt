@@ -1,21 +1,23 @@
+//! A session: where it stands, what it has found of its unit, and what it answers to a frame.
 ghost use Rattle.unit_model.specs.declared.layout.TheConstants.{IMAGE_SIZE};
 ghost use Rattle.std.specs.Prelude.{◌≡◌, ℕ, ◌≤◌, true, false, IfOk, OnOk, OnErr, IfErr, IfSome, Some, List};
-ghost use Rattle.std.specs.Prelude.{Option, is_some};
+ghost use Rattle.std.specs.Prelude.{Option};
 ghost use Rattle.link_model.specs.declared.request.Request.{Request as Asked};
 ghost use Rattle.link_model.specs.Answers.{Idle, answered, sends_on};
 ghost use Rattle.link_frames.specs.Seen.{meant};
 ghost use Rattle.message_model.specs.Sending.{content_sent};
-ghost use Rattle.unit_model.specs.Decoding.{Decodes, first_bad_place};
+ghost use Rattle.unit_model.specs.Decoding.{first_bad_place};
 ghost use Rattle.unit_minutes.specs.Reading.{ReadsIfAny};
 ghost use Rattle.link_frames.specs.Asking.{asks_unit};
 ghost use Rattle.link_frames.specs.Steps.{state_of, begins, performed, asks};
 ghost use Rattle.link_frames.specs.Sending.{IsPart, reply_of};
 ghost use Rattle.link_session.specs.Told.{Knows, is_judged, fresh, IfBadUnit, has_failed};
-ghost use Rattle.link_session.specs.Told.{AnswersNot, HasFound};
+ghost use Rattle.link_session.specs.Told.{AnswersNot, HasFound, AsksUnit};
 
 use crate::asking::{AnswerFault, Part, judge, part_of};
 use link_frames::{Frame, Reply, Seen, Standing, Step, begun, place_of, sent_on, step_of};
 use link_model::Request;
+use link_model::lengths::MESSAGE_HEADER;
 use std::marker::Model;
 use tach_media::Medium;
 use unit_messages::Outline;
@@ -91,7 +93,7 @@ impl Session {
         Ok(reply.answer)
     }
 
-    // What a step answers, by the unit's messages where it hangs on them.
+    /// What a step answers, by the unit's messages where it hangs on them.
     fn perform<M: Medium>(&mut self, unit: &mut M, step: Step) -> Result<Reply, AnswerFault>
         requires unit { (M.state unit.old).size ≡ IMAGE_SIZE }
         requires knows { IfSome (M.state unit.old).image (Knows self.old) }
@@ -120,7 +122,7 @@ impl Session {
         }
     }
 
-    // Begins to send a message, where there is one.
+    /// Begins to send a message, where there is one.
     fn begin<M: Medium>(
         &mut self,
         unit: &mut M,
@@ -134,19 +136,13 @@ impl Session {
             (content_sent x request))) }
         ensures possible { IfOk result (λ reply. (content : Option (List ℕ))
             × (reply_of reply ≡ begins (state_of standing) request content)) }
-        ensures stays { OnOk result (self.new.state ≡ self.old.state) }
-        ensures judged { OnOk result (is_judged self.new ≡ true) }
-        ensures knows { OnOk result (IfSome (M.state unit.old).image (Knows self.new)) }
-        ensures same { OnErr result (self.new ≡ self.old) }
-        ensures bad { IfErr result (λ fault. IfBadUnit fault (λ p. (is_judged self.old ≡ false) × IfSome
-            (M.state unit.old).image (λ x. first_bad_place x ≡ Some p))) }
-        ensures reads { ReadsIfAny (M.state unit.old) (M.state unit.new) (has_failed result) }
+        ensures asks { AsksUnit result self.old self.new (M.state unit.old) (M.state unit.new) }
     {
-        let part = self.ask(unit, &request, 2)?;
+        let part = self.ask(unit, &request, MESSAGE_HEADER)?;
         Ok(begun(request, standing, part.told, part.bytes.as_slice()))
     }
 
-    // Goes on with a message.
+    /// Goes on with a message.
     fn go_on<M: Medium>(
         &mut self,
         unit: &mut M,
@@ -160,20 +156,14 @@ impl Session {
             counter (content_sent x request) code)) }
         ensures possible { IfOk result (λ reply. (content : Option (List ℕ))
             × (reply_of reply ≡ sends_on request counter content code)) }
-        ensures stays { OnOk result (self.new.state ≡ self.old.state) }
-        ensures judged { OnOk result (is_judged self.new ≡ true) }
-        ensures knows { OnOk result (IfSome (M.state unit.old).image (Knows self.new)) }
-        ensures same { OnErr result (self.new ≡ self.old) }
-        ensures bad { IfErr result (λ fault. IfBadUnit fault (λ p. (is_judged self.old ≡ false) × IfSome
-            (M.state unit.old).image (λ x. first_bad_place x ≡ Some p))) }
-        ensures reads { ReadsIfAny (M.state unit.old) (M.state unit.new) (has_failed result) }
+        ensures asks { AsksUnit result self.old self.new (M.state unit.old) (M.state unit.new) }
     {
         let place = place_of(code);
         let part = self.ask(unit, &request, place)?;
         Ok(sent_on(request, counter, code, part.told, part.bytes.as_slice()))
     }
 
-    // Reads a part of a message, of a unit that is judged before, if it was not yet.
+    /// Reads a part of a message, of a unit that is judged before, if it was not yet.
     fn ask<M: Medium>(
         &mut self,
         unit: &mut M,
@@ -187,13 +177,7 @@ impl Session {
             from part.told part.bytes.items)) }
         ensures possible { IfOk result (λ part. (content : Option (List ℕ)) × IsPart content from part.told
             part.bytes.items) }
-        ensures stays { OnOk result (self.new.state ≡ self.old.state) }
-        ensures judged { OnOk result (is_judged self.new ≡ true) }
-        ensures knows { OnOk result (IfSome (M.state unit.old).image (Knows self.new)) }
-        ensures same { OnErr result (self.new ≡ self.old) }
-        ensures bad { IfErr result (λ fault. IfBadUnit fault (λ p. (is_judged self.old ≡ false) × IfSome
-            (M.state unit.old).image (λ x. first_bad_place x ≡ Some p))) }
-        ensures reads { ReadsIfAny (M.state unit.old) (M.state unit.new) (has_failed result) }
+        ensures asks { AsksUnit result self.old self.new (M.state unit.old) (M.state unit.new) }
     {
         let Some(journal) = &self.journal else {
             return self.ask_first(unit, request, from);
@@ -203,7 +187,7 @@ impl Session {
         Ok(part)
     }
 
-    // Judges the unit, and reads a part of a message.
+    /// Judges the unit, and reads a part of a message.
     fn ask_first<M: Medium>(
         &mut self,
         unit: &mut M,
@@ -217,13 +201,7 @@ impl Session {
             from part.told part.bytes.items)) }
         ensures possible { IfOk result (λ part. (content : Option (List ℕ)) × IsPart content from part.told
             part.bytes.items) }
-        ensures stays { OnOk result (self.new.state ≡ self.old.state) }
-        ensures judged { OnOk result (is_judged self.new ≡ true) }
-        ensures knows { OnOk result (IfSome (M.state unit.old).image (Knows self.new)) }
-        ensures same { OnErr result (self.new ≡ self.old) }
-        ensures bad { IfErr result (λ fault. IfBadUnit fault (λ p. IfSome (M.state unit.old).image
-            (λ x. first_bad_place x ≡ Some p))) }
-        ensures reads { ReadsIfAny (M.state unit.old) (M.state unit.new) (has_failed result) }
+        ensures asks { AsksUnit result self.old self.new (M.state unit.old) (M.state unit.new) }
     {
         let journal = judge(unit)?;
         let part = part_of(&journal, unit, &None, request, from)?;

@@ -26,7 +26,7 @@ pub record Asked : Type 0 where
   pub pick : Pick
   pub minute : ℕ
 
--- a minute of the day of a second
+-- this minute of the day of a second, counted from 1970-01-01 00:00
 abbrev pub minute_on : (second minute : ℕ) → ℕ
 minute_on second minute = second / 86400 * 1440 + minute
 
@@ -58,6 +58,7 @@ asked_in log before s =
     (fresh (not before.running) before.slots))
     else []
 
+-- what these seconds ask, one after another, where the first has this to know of those before it
 abbrev pub asked_from : RunLog → Before → List TraceSecond → List Asked
 asked_from log before [] = []
 asked_from log before (s ∷ ss) = asked_in log before s
@@ -82,10 +83,11 @@ is_stop (NotFree newest inserted) = true
 is_stop (Full held) = true
 is_stop fault = false
 
--- the refusals of sessions, and those of slots and power, which alone the course of a run goes by
+-- the refusals of sessions
 abbrev pub stops : List Refused → List Refused
 stops refused = filter (λ r. is_stop r.fault) refused
 
+-- the refusals by the slots, the speed or want of power, by which alone the course of a run goes
 abbrev pub by_slots : List Refused → List Refused
 by_slots refused = filter (λ r. not (is_stop r.fault)) refused
 

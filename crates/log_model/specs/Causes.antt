@@ -42,7 +42,7 @@ second_of (Tear second slot failed begun late) = second
 abbrev pub cuts : Bool → RunLog → List Break
 cuts failed log = filter (λ b. is_cut b && (if failed then has_failed b else not (has_failed b))) log.breaks
 
--- the tears likewise
+-- the tears that a failed call made, or those that it did not
 abbrev pub tears : Bool → RunLog → List Break
 tears failed log = filter (λ b. not (is_cut b) && (if failed then has_failed b else not (has_failed b))) log.breaks
 
@@ -69,14 +69,15 @@ places (Tear second slot failed begun late) = (second, phase_of begun late, slot
 abbrev pub visit_places : ℕ → List Visit → List (ℕ × Phase × Slot)
 visit_places u vs = map (λ v. (u, v.phase, v.slot)) vs
 
--- those of one slot
+-- of places those of one slot
 abbrev pub in_the_slot : Slot → List (ℕ × Phase × Slot) → List (ℕ × Phase × Slot)
 in_the_slot slot places = filter (λ p. same_slot p.2 slot) places
 
--- a refusal of a second, with the number of actions that had begun, and all of these
+-- a refusal in this second: its number, how many actions had begun, and the cause
 abbrev pub refusal_at : ℕ → ℕ × SlotFault → ℕ × ℕ × SlotFault
 refusal_at u r = (u, r.0, r.1)
 
+-- the refusals of this second, each with its number
 abbrev pub refusals_at : ℕ → List (ℕ × SlotFault) → List (ℕ × ℕ × SlotFault)
 refusals_at u refused = map (refusal_at u) refused
 
@@ -96,7 +97,7 @@ pulled_of told = flat_map (λ t. visit_places t.second.number t.course.pulled) t
 abbrev pub torn_of : List ToldSecond → List (ℕ × Phase × Slot)
 torn_of told = flat_map (λ t. visit_places t.second.number t.course.torn) told
 
--- these cards
+-- the cards that failed calls tore out, without second, moment or slot
 abbrev pub cards_torn : List ToldSecond → List Card
 cards_torn told = flat_map (λ t. map (λ v. v.card) t.course.torn) told
 
@@ -130,7 +131,7 @@ abbrev pub IsAtPowerOn : (starts : Bool) → Break → Type 0
 IsAtPowerOn starts (Cut second kept failed begun) = Unit {0}
 IsAtPowerOn starts (Tear second slot failed begun late) = begun ≡ 0 → late ≡ false → starts ≡ true
 
--- of a break in one of these seconds
+-- a break stands in its second so: before any action only where power began with that
 abbrev pub HasMoment : List ToldSecond → Break → Type 0
 HasMoment told b = (t : ToldSecond) → Contains told t → t.second.number ≡ second_of b → IsAtPowerOn t.starts b
 

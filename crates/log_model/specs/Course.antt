@@ -42,11 +42,11 @@ abbrev pub card_in : Option Sitting → List Card
 card_in None = []
 card_in (Some sitting) = sitting.card ∷ []
 
--- the same as a visit at this moment
+-- the card that sits in a slot as a visit at this moment, if one sits there
 abbrev pub visits : Phase → Slot → Slots → List Visit
 visits p slot slots = map (λ card. record { phase = p; slot = slot; card = card }) (card_in (in_slot slots slot))
 
--- with this in a slot
+-- the slots with this in one of them
 abbrev pub with_slot : Slots → Slot → Option Sitting → Slots
 with_slot slots Driver sitting = record slots { driver = sitting }
 with_slot slots CoDriver sitting = record slots { codriver = sitting }
@@ -252,7 +252,7 @@ pub record Went : Type 0 where
   pub told : List ToldSecond
   pub before : Before
 
--- one second more
+-- the course of a run with one second more
 abbrev pub went_on : RunLog → Went → TraceSecond → Went
 went_on log w s = let t : ToldSecond = second_told log w.before s
     in record { told = w.told ++ t ∷ []; before = before_next w.before t }

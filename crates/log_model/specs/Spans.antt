@@ -19,10 +19,11 @@ spans_with spans t = if t.lit then (if t.starts then spans ++ (t ∷ []) ∷ [] 
 unfoldable pub spans_of : List ToldSecond → List (List ToldSecond)
 spans_of ts = fold spans_with [] ts
 
--- the seconds of a span, and the number of its first
+-- the seconds of a span, by number, speed and selections alone
 abbrev pub seconds_in : List ToldSecond → List Second
 seconds_in span = map (λ t. t.second) span
 
+-- the number of the first second of a span, 0 where it has none
 abbrev pub first_in : List ToldSecond → ℕ
 first_in [] = 0
 first_in (t ∷ span) = t.second.number

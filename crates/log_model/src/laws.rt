@@ -1,3 +1,4 @@
+//! The course of a run goes on second by second, and its spans are numbered: laws.
 ghost use Rattle.std.specs.Prelude.{◌≡◌, ◌+◌, ℕ, ◌++◌, ◌∷◌, List, [], All, length};
 ghost use Rattle.trace_model.specs.declared.Item.{Item};
 ghost use Rattle.trace_model.specs.Trace.{TraceSecond, seconds_of};

@@ -33,12 +33,12 @@ pub enum SlotFault {
     Elsewhere(Card),
     /// There is no power.
     NoPower,
-    /// The session of the slot's card has kept a minute already: the first such.
+    /// The session of the slot's card has kept a minute already: the first such, counted from 1970-01-01 00:00 GMT.
     Begun(u32),
     /// An entry by hand is not later than the newest minute of the card and of its entries by hand, or not earlier than
     /// the insertion: that newest minute, and the minute of the insertion.
     NotFree(u32, u32),
-    /// The session holds so many entries by hand already.
+    /// The session holds so many entries by hand already, which are as many as it may: 8.
     Full(u8),
 }
 
@@ -46,6 +46,7 @@ pub enum SlotFault {
 #[derive(Clone, Copy, Debug, PartialEq, Eq)]
 pub struct Mark {
     pub device: Device,
+    /// The minute, counted from 1970-01-01 00:00 GMT.
     pub minute: u32,
     /// The device's clock, in writes begun, after the call that kept the minute.
     pub clock: u64,
@@ -56,6 +57,7 @@ pub struct Mark {
 pub enum Break {
     /// The power was lost in a second.
     Cut {
+        /// The last second with power.
         second: u32,
         /// The last-kept minute that the next power-on found which loaded the unit, 0 where none came.
         kept: u32,
@@ -66,6 +68,7 @@ pub enum Break {
     },
     /// A card left its slot in a second with no orderly withdrawal.
     Tear {
+        /// The second in which the card left its slot.
         second: u32,
         slot: Slot,
         /// Whether a call on the card failed; else it is a `tear` line.
@@ -81,17 +84,30 @@ pub enum Break {
 #[derive(Clone, Copy, Debug, PartialEq, Eq)]
 pub enum Verdict {
     /// The card is accepted, and so many owed entries were put on it, 0 to 4.
-    Accepted { replayed: u8 },
+    Accepted {
+        replayed: u8,
+    },
     /// The card is not valid: the first file that fails, and the place in it.
-    NotValid { fid: Fid, place: u32 },
+    NotValid {
+        fid: Fid,
+        /// In bytes, from 0.
+        place: u32,
+    },
     /// The card tells of a later time than this second.
-    TimeOverlap { stored: u32, now: u32 },
+    TimeOverlap {
+        /// The newest time that the card stores, in seconds from 1970-01-01 00:00 GMT.
+        stored: u32,
+        /// The second in which it was judged.
+        now: u32,
+    },
 }
 
 /// A card was judged.
 #[derive(Clone, Copy, Debug, PartialEq, Eq)]
 pub struct Find {
+    /// The second in which it was judged, counted from 1970-01-01 00:00 GMT.
     pub second: u32,
+    /// The slot in which it sits.
     pub slot: Slot,
     pub verdict: Verdict,
     /// How many actions of the second had begun, the insertion included; 0 at a power-on.
@@ -101,6 +117,7 @@ pub struct Find {
 /// An action was refused.
 #[derive(Clone, Copy, Debug, PartialEq, Eq)]
 pub struct Refused {
+    /// The second of the action, counted from 1970-01-01 00:00 GMT.
     pub second: u32,
     pub fault: SlotFault,
     /// How many actions of the second had begun, the refused one included.

@@ -6,6 +6,8 @@ use Rattle.card_layout.specs.Fields.{joined}
 use Rattle.unit_model.specs.declared.layout.TheConstants.{STATE_CERTIFICATE, UNIT_CERTIFICATE, VIN, REGISTRATION}
 use Rattle.unit_model.specs.declared.layout.TheConstants.{IDENTIFICATION, SENSOR}
 use Rattle.unit_model.specs.Days.{word_minute}
+use Rattle.link_model.specs.declared.services.TheConstants.{MESSAGE, OVERVIEW_NUMBER, DAY_NUMBER, EVENTS_NUMBER}
+use Rattle.link_model.specs.declared.services.TheConstants.{SPEED_NUMBER, TECHNICAL_NUMBER, DAY_SECONDS}
 use Rattle.message_model.specs.declared.sizes.TheConstants.{LAST_DOWNLOAD, LOCK, CONTROL, SIGNATURE, INSERTION, PLACE}
 use Rattle.message_model.specs.declared.sizes.TheConstants.{CONDITION, FAULT, EVENT, OVER, ADJUSTMENT, SPEED_BLOCK}
 use Rattle.message_model.specs.declared.sizes.TheConstants.{CALIBRATION}
@@ -60,6 +62,7 @@ pub record TechnicalMessage : Type 0 where
   pub calibrations : List (List ℕ)
   pub signature : List ℕ
 
+-- a message of a download
 pub data Message : Type 0 where
   AnOverview : Overview → Message
   ADay : DayMessage → Message
@@ -75,7 +78,7 @@ counted width entries = big_bytes width (length entries) ++ joined entries
 abbrev pub word_bytes : List ℕ → List (List ℕ)
 word_bytes words = map (big_bytes 2) words
 
--- what stands behind the number, field by field
+-- an overview, field by field
 abbrev pub overview_bytes : Overview → List ℕ
 overview_bytes m =
     joined
@@ -83,6 +86,7 @@ overview_bytes m =
     ∷ big_bytes 4 m.end
     ∷ big_bytes 1 m.slot_status ∷ m.last_download ∷ counted 1 m.locks ∷ counted 1 m.controls ∷ m.signature ∷ [])
 
+-- a day, field by field
 abbrev pub day_bytes : DayMessage → List ℕ
 day_bytes m =
     joined
@@ -90,6 +94,7 @@ day_bytes m =
     ∷ counted 1 m.places
     ∷ counted 2 m.conditions ∷ m.signature ∷ [])
 
+-- events and faults, field by field
 abbrev pub event_bytes : EventMessage → List ℕ
 event_bytes m =
     joined
@@ -97,20 +102,23 @@ event_bytes m =
     ∷ big_bytes 1 m.over_count
     ∷ counted 1 m.overs ∷ counted 1 m.adjustments ∷ m.signature ∷ [])
 
+-- detailed speed: its blocks, and the signature
 abbrev pub speed_bytes : SpeedMessage → List ℕ
 speed_bytes m = joined (counted 2 m.blocks ∷ m.signature ∷ [])
 
+-- technical data, field by field
 abbrev pub technical_bytes : TechnicalMessage → List ℕ
 technical_bytes m = joined (m.identification ∷ m.sensor ∷ counted 1 m.calibrations ∷ m.signature ∷ [])
 
--- a message's number, and what stands behind it
+-- a message's number
 abbrev pub number_of : Message → ℕ
-number_of (AnOverview m) = 1
-number_of (ADay m) = 2
-number_of (AnEventList m) = 3
-number_of (ASpeedList m) = 4
-number_of (ATechnical m) = 5
+number_of (AnOverview m) = OVERVIEW_NUMBER
+number_of (ADay m) = DAY_NUMBER
+number_of (AnEventList m) = EVENTS_NUMBER
+number_of (ASpeedList m) = SPEED_NUMBER
+number_of (ATechnical m) = TECHNICAL_NUMBER
 
+-- what stands behind the number
 abbrev pub content_of : Message → List ℕ
 content_of (AnOverview m) = overview_bytes m
 content_of (ADay m) = day_bytes m
@@ -120,7 +128,7 @@ content_of (ATechnical m) = technical_bytes m
 
 -- a message begins with 76 and its number
 abbrev pub message_bytes : Message → List ℕ
-message_bytes m = 0x76 ∷ number_of m ∷ content_of m
+message_bytes m = MESSAGE ∷ number_of m ∷ content_of m
 
 -- entries of so many bytes, whose count has so many bytes
 pub record AreEntries (width size : ℕ) (entries : List (List ℕ)) : Type 0 where
@@ -131,8 +139,7 @@ pub record AreEntries (width size : ℕ) (entries : List (List ℕ)) : Type 0 wh
 abbrev pub HasSize : ℕ → List ℕ → Type 0
 HasSize n bytes = length bytes ≡ n
 
--- the grammar: each field has its size, and each count its bytes; a day is a day's first second, and each word stands
--- in it
+-- the grammar of an overview: each field has its size, and each count its bytes
 pub record IsOverview (m : Overview) : Type 0 where
   pub certificates : HasSize STATE_CERTIFICATE.size m.state_certificate
       × HasSize UNIT_CERTIFICATE.size m.unit_certificate
@@ -144,8 +151,9 @@ pub record IsOverview (m : Overview) : Type 0 where
   pub controls : AreEntries 1 CONTROL m.controls
   pub signed : HasSize SIGNATURE m.signature
 
+-- that of a day, which is a day's first second; each word stands in it
 pub record IsDayMessage (m : DayMessage) : Type 0 where
-  pub date : (m.date < 2 ^ 32) × (m.date % 86400 ≡ 0)
+  pub date : (m.date < 2 ^ 32) × (m.date % DAY_SECONDS ≡ 0)
   pub odometer : m.odometer < 2 ^ 24
   pub insertions : AreEntries 2 INSERTION m.insertions
   pub few : length m.words < 2 ^ 16
@@ -154,6 +162,7 @@ pub record IsDayMessage (m : DayMessage) : Type 0 where
   pub conditions : AreEntries 2 CONDITION m.conditions
   pub signed : HasSize SIGNATURE m.signature
 
+-- that of events and faults
 pub record IsEventMessage (m : EventMessage) : Type 0 where
   pub faults : AreEntries 1 FAULT m.faults
   pub events : AreEntries 1 EVENT m.events
@@ -162,15 +171,18 @@ pub record IsEventMessage (m : EventMessage) : Type 0 where
   pub adjustments : AreEntries 1 ADJUSTMENT m.adjustments
   pub signed : HasSize SIGNATURE m.signature
 
+-- that of detailed speed
 pub record IsSpeedMessage (m : SpeedMessage) : Type 0 where
   pub blocks : AreEntries 2 SPEED_BLOCK m.blocks
   pub signed : HasSize SIGNATURE m.signature
 
+-- that of technical data
 pub record IsTechnicalMessage (m : TechnicalMessage) : Type 0 where
   pub unit : HasSize IDENTIFICATION.size m.identification × HasSize SENSOR.size m.sensor
   pub calibrations : AreEntries 1 CALIBRATION m.calibrations
   pub signed : HasSize SIGNATURE m.signature
 
+-- a message of the grammar
 abbrev pub IsMessage : Message → Type 0
 IsMessage (AnOverview m) = IsOverview m
 IsMessage (ADay m) = IsDayMessage m

@@ -40,10 +40,11 @@ unit_place_ring = record {
 abbrev pub speed_ring : Shape
 speed_ring = record { base = SPEEDS.place; width = SPEED_BLOCK; count = SPEED_SLOTS; pointer_width = 4; gate = 0 }
 
--- when a card was inserted, and when it was withdrawn, 0 where it was not
+-- when a card was inserted
 abbrev pub insertion_time : List ℕ → ℕ
 insertion_time e = number_in insertion_widths 4 e
 
+-- when a card was withdrawn, 0 where it was not
 abbrev pub withdrawal_time : List ℕ → ℕ
 withdrawal_time e = number_in insertion_widths 7 e
 

@@ -12,9 +12,11 @@ use Rattle.unit_model.specs.declared.layout.TheConstants.{FAULTS}
 use Rattle.unit_model.specs.Days.{StoredDay, days_kept}
 use Rattle.unit_model.specs.Image.{number_of as number_in, last_kept, unit_days}
 use Rattle.link_model.specs.declared.request.Request.{Request}
+use Rattle.link_model.specs.declared.services.TheConstants.{DAY_SECONDS}
 use Rattle.link_model.specs.declared.request.Request.TheVariants.{Overview as AskOverview, Day as AskDay}
 use Rattle.link_model.specs.declared.request.Request.TheVariants.{Events as AskEvents, Speed as AskSpeed}
 use Rattle.link_model.specs.declared.request.Request.TheVariants.{Technical as AskTechnical}
+use Rattle.message_model.specs.declared.sizes.TheConstants.{EVENT, OVER, FAULT, LAST_DOWNLOAD, SIGNATURE}
 use Rattle.message_model.specs.Records.{insertion_ring, unit_place_ring, speed_ring, insertion_time, withdrawal_time}
 use Rattle.message_model.specs.Records.{place_time}
 use Rattle.message_model.specs.Messages.{Overview, DayMessage, EventMessage, SpeedMessage, TechnicalMessage, Message}
@@ -34,14 +36,17 @@ zeros n = replicate n 0
 abbrev pub table : (base width count : ℕ) → Shape
 table base width count = record { base = base; width = width; count = count; pointer_width = 0; gate = 2 }
 
+-- the events of a unit's memory
 abbrev pub event_table : Shape
-event_table = table EVENTS.place 83 60
+event_table = table EVENTS.place EVENT 60
 
+-- its over speedings
 abbrev pub over_table : Shape
-over_table = table OVERS.place 31 10
+over_table = table OVERS.place OVER 10
 
+-- its faults
 abbrev pub fault_table : Shape
-fault_table = table FAULTS.place 82 24
+fault_table = table FAULTS.place FAULT 24
 
 -- the entries that are there, in order of places
 abbrev pub entries_in : Shape → List ℕ → List (List ℕ)
@@ -49,12 +54,13 @@ entries_in r x = map (entry_at r x) (filter (is_there r x) (range_with_len 0 r.c
 
 -- a second lies in the day that begins at this one
 abbrev pub is_in_day : (date second : ℕ) → Bool
-is_in_day date second = nat_eq (second / 86400 * 86400) date
+is_in_day date second = nat_eq (second / DAY_SECONDS * DAY_SECONDS) date
 
 -- the insertion or the withdrawal lies in the day
 abbrev pub touches_day : (date : ℕ) → List ℕ → Bool
 touches_day date e = is_in_day date (insertion_time e) || is_in_day date (withdrawal_time e)
 
+-- a place was entered in the day
 abbrev pub place_in_day : (date : ℕ) → List ℕ → Bool
 place_in_day date e = is_in_day date (place_time e)
 
@@ -80,10 +86,10 @@ overview_of x =
       begin = (period_of (60 * last_kept x) (sent_days x)).0;
       end = (period_of (60 * last_kept x) (sent_days x)).1;
       slot_status = 0;
-      last_download = zeros 58;
+      last_download = zeros LAST_DOWNLOAD;
       locks = [];
       controls = [];
-      signature = zeros 128;
+      signature = zeros SIGNATURE;
     }
 
 -- a day with these insertions and places of the unit, of which those of the day are sent, oldest first
@@ -96,9 +102,10 @@ day_message insertions places d =
       words = d.words;
       places = filter (place_in_day d.date) places;
       conditions = [];
-      signature = zeros 128;
+      signature = zeros SIGNATURE;
     }
 
+-- the message of a recorded day: with the image's own insertions and places
 unfoldable pub day_message_of : List ℕ → StoredDay → DayMessage
 day_message_of x d = day_message (ring_list insertion_ring x) (ring_list unit_place_ring x) d
 
@@ -113,20 +120,21 @@ event_message_of x =
       over_count = number_in x OVER_COUNT;
       overs = entries_in over_table x;
       adjustments = [];
-      signature = zeros 128;
+      signature = zeros SIGNATURE;
     }
 
 -- the blocks of detailed speed, oldest first
 unfoldable pub speed_message_of : List ℕ → SpeedMessage
-speed_message_of x = record { blocks = ring_list speed_ring x; signature = zeros 128 }
+speed_message_of x = record { blocks = ring_list speed_ring x; signature = zeros SIGNATURE }
 
+-- the unit's identification and its sensor; no calibration is told
 unfoldable pub technical_message_of : List ℕ → TechnicalMessage
 technical_message_of x =
     record {
       identification = field_of IDENTIFICATION x;
       sensor = field_of SENSOR x;
       calibrations = [];
-      signature = zeros 128;
+      signature = zeros SIGNATURE;
     }
 
 -- the day that begins at this second, if it is recorded

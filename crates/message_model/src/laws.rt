@@ -1,5 +1,7 @@
+//! What holds of messages and of unit files: laws, which are functions without a body.
 ghost use Rattle.std.specs.Prelude.{◌≡◌, ℕ, ◌+◌, false, option_to_list, List, ◌∷◌, ◌++◌, flat_map};
 ghost use Rattle.std.specs.List.{concat};
+ghost use Rattle.link_model.specs.declared.services.TheConstants.{MESSAGE};
 ghost use Rattle.link_model.specs.Answers.{cuts, has_piece};
 ghost use Rattle.unit_model.specs.Image.{unit_minutes};
 ghost use Rattle.message_model.specs.Messages.{Message, IsMessage, number_of, content_of, message_bytes};
@@ -20,7 +22,7 @@ pub fn a_file_answers_the_requests()
 /// 76, the number, and the pieces up to one that none follows are the message.
 pub fn pieces_are_the_message()
     ensures { (m : Message) (last : ℕ) → has_piece (content_of m) (last + 1) ≡ false →
-        0x76 ∷ number_of m ∷ concat (cuts (content_of m) last) ≡ message_bytes m }
+        MESSAGE ∷ number_of m ∷ concat (cuts (content_of m) last) ≡ message_bytes m }
 {}
 
 /// The bytes of a message of the grammar, with whatever follows them, tell it in one way.

@@ -14,6 +14,7 @@ use Rattle.minute_model.specs.Second.{Second}
 abbrev pub is_still : Second → Bool
 is_still second = second.speed == 0
 
+-- so is each of these seconds
 abbrev pub all_still : List Second → Bool
 all_still seconds = list_all is_still seconds
 
@@ -26,10 +27,11 @@ last_still (second ∷ seconds) = if all_still (second ∷ seconds) then second 
 abbrev pub picks_for : Slot → List (Slot × Pick) → List Pick
 picks_for slot picks = map (λ p. p.1) (filter (λ p. same_slot slot p.0) picks)
 
--- the selections in these seconds, in order
+-- the driver's selections in these seconds, in order
 abbrev pub driver_picks : List Second → List Pick
 driver_picks seconds = flat_map (λ second. picks_for Driver second.picks) seconds
 
+-- and the co-driver's
 abbrev pub codriver_picks : List Second → List Pick
 codriver_picks seconds = flat_map (λ second. picks_for CoDriver second.picks) seconds
 

@@ -41,6 +41,7 @@ abbrev pub last_for : List Pick → Option Pick
 last_for [] = None
 last_for (pick ∷ picks) = Some (last_in pick picks)
 
+-- and the first one
 abbrev pub first_for : List Pick → Option Pick
 first_for [] = None
 first_for (pick ∷ picks) = Some pick
@@ -58,6 +59,7 @@ driver_slot seconds picks = record {
   picked = last_for picks;
 }
 
+-- and for the co-driver
 abbrev pub codriver_slot : List Second → List Pick → CodriverSlot
 codriver_slot seconds picks = record {
   current = last_in (if all_still seconds then pick.Rest else pick.Available) (codriver_picks (last_still seconds));
@@ -80,6 +82,7 @@ kept_at m owing span = record {
   codriver = codriver_slot span.seconds (picks_for CoDriver span.pending);
 }
 
+-- so of a span, by its end and by how many minutes were not given
 abbrev pub kept_of : Span → Kept
 kept_of span = kept_at (end_of span / 60) (end_of span / 60 - ungiven_of span) span
 
@@ -112,6 +115,7 @@ driver_heard slot = record {
   picked = None;
 }
 
+-- so it does for the co-driver
 abbrev pub codriver_heard : CodriverSlot → CodriverSlot
 codriver_heard slot = record { current = selected slot.current slot.picked; picked = None }
 
@@ -129,6 +133,7 @@ ended (Some count) (Some pick) kept = record (kept_closed (activity_of pick) kep
 abbrev pub slots_heard : Kept → Kept
 slots_heard kept = record kept { driver = driver_heard kept.driver; codriver = codriver_heard kept.codriver }
 
+-- and before it a rest or availability in time closes the open seconds
 abbrev pub heard : Kept → Kept
 heard kept = slots_heard (ended kept.driver.waiting kept.driver.early kept)
 
@@ -204,10 +209,11 @@ minute_ended kept = if kept.next % 60 == 0
     then with_owing (if nat_lt (minutes_ahead kept.rule) (kept.owing + 1) then kept.owing else kept.owing + 1)
     (turned kept) else kept
 
--- the minutes that have ended and were not given
+-- the last of the minutes that have ended, so many
 abbrev pub owed_from : Kept → ℕ → List Minute
 owed_from kept zero = []
 owed_from kept (suc back) = class_kept kept (suc back) ∷ owed_from kept back
 
+-- those that were not given
 abbrev pub owed : Kept → List Minute
 owed kept = owed_from kept kept.owing

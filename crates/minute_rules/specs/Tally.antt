@@ -33,5 +33,6 @@ abbrev pub tally_from : Tally → List Activity → Tally
 tally_from tally [] = tally
 tally_from tally (act ∷ acts) = tally_from (with_run tally act 1) acts
 
+-- so of a whole list of seconds
 abbrev pub tally_of : List Activity → Tally
 tally_of acts = tally_from no_run acts

@@ -26,8 +26,11 @@ pub type Decided = ArrayVec<Minute, 3>;
 /// minute later at that speed.
 #[derive(Drop)]
 pub struct Alike {
+    /// How many seconds of them were fed.
     pub seconds: u32,
+    /// The minutes that they decide, at first.
     pub decided: Decided,
+    /// How many times they decide them, each time a minute later at that speed; 1 at least.
     pub times: u32,
 }
 
@@ -39,6 +42,7 @@ pub struct Alike {
 #[derive(Drop)]
 pub struct Minutes {
     rule: Rule,
+    /// The number of the next second, from 1970-01-01 00:00 GMT.
     next: u32,
     /// How many minutes before that of the next second were not given yet.
     owing: u32,
@@ -53,11 +57,17 @@ pub struct Minutes {
 /// What is kept of a span but for the minutes before that of the next second.
 #[derive(Clone, Copy)]
 pub struct Moment {
+    /// Which rule of minutes holds.
     pub rule: Rule,
+    /// The number of the next second, from 1970-01-01 00:00 GMT.
     pub next: u32,
+    /// How many minutes before that of the next second were not given yet.
     pub owing: u32,
+    /// The minute of the next second.
     pub here: Counted,
+    /// What is selected for the driver.
     pub driver: DriverSlot,
+    /// What is selected for the co-driver.
     pub codriver: CodriverSlot,
 }
 

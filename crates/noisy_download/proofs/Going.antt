@@ -16,7 +16,7 @@ use Rattle.unit_download.specs.declared.wire.Passed.{Passed}
 use Rattle.unit_download.specs.declared.fault.DownloadFault.{DownloadFault}
 use Rattle.unit_download.specs.declared.fault.DownloadFault.TheVariants.{Failed, BadUnit, Changed, WriteFault, Memory}
 use Rattle.unit_download.specs.Wires.{of_loader, of_unit}
-use Rattle.unit_download.specs.Ending.{IfBad}
+use Rattle.unit_download.specs.Ending.{IfBad, IsDownloaded}
 use Rattle.unit_download.specs.Ending as ending
 use Rattle.noisy_model.specs.declared.packet.Packet.{Packet}
 use Rattle.noisy_model.specs.declared.event.Event.{Event}
@@ -28,7 +28,6 @@ use Rattle.noisy_model.proofs.Arriving.{Cases, cases, sent_is, brought_is}
 use Rattle.noisy_model.proofs.Leading.{IsSent, IsGiven, IsIt, is_it}
 use Rattle.noisy_link.specs.Sides.{IsReply, Loads, asked, is_over, download_sides, puts_of}
 use Rattle.noisy_link.specs.Steps.{told_as, frame_of, brought_by, IsRefusal, LacksRoom, AsksUnit, IsSilent, IsUnanswered, IsSilence, IsUntaken, IsStep, to_unit, to_loader}
-use Rattle.noisy_download.specs.Ending.{IsDownloaded}
 use Rattle.noisy_download.specs.Listing.{ListTakes, listing_sides, listing, with_list, IsUnsent, Lists, RequestIsListed, AnswerIsListed, IsListed, IsUnderway, DownloadGoesOn}
 use Rattle.noisy_download.proofs.Listed.{passes_on, puts_on}
 use Rattle.noisy_download.proofs.Underway.{some_of, one_frame, kept_underway, here, on_wire, ended, memory_ended, failed_ended, bad_ended, silent_ended, refused_ended}

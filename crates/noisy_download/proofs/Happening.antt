@@ -12,11 +12,11 @@ use Rattle.noisy_model.specs.declared.event.Event.{Event}
 use Rattle.noisy_model.specs.Worlds.{World}
 use Rattle.noisy_link.specs.Sides.{is_over}
 use Rattle.noisy_link.specs.Steps.{IsStep}
-use Rattle.noisy_download.specs.Ending.{IsDownloaded}
 use Rattle.noisy_download.specs.Listing.{RequestIsListed, AnswerIsListed, IsListed, IsUnderway, DownloadGoesOn}
 use Rattle.noisy_download.proofs.Underway.{memory_ended}
 use Rattle.noisy_download.proofs.Going.{goes}
 use Rattle.noisy_download.proofs.Rounds.{underway_at, goes_at, goes_passed}
+use Rattle.unit_download.specs.Ending.{IsDownloaded}
 
 -- the request is on the wire, or there is none, or it was added
 pub request_there : (b : Bool) (o : Option (List ℕ)) (wire : List Passed) → b ≡ true → RequestIsListed b o wire b wire

@@ -16,8 +16,8 @@ use Rattle.unit_download.specs.declared.fault.DownloadFault.TheVariants.{Memory}
 use Rattle.unit_download.proofs.Talking.{fresh_knows, nothing_began}
 use Rattle.noisy_model.specs.Worlds.{World, fresh_world}
 use Rattle.noisy_link.specs.Sides.{Sized, is_over}
-use Rattle.noisy_download.specs.Ending.{IsDownloaded}
 use Rattle.noisy_download.specs.Listing.{IsUnderway, DownloadGoesOn}
+use Rattle.unit_download.specs.Ending.{IsDownloaded}
 
 -- nothing has happened
 pub underway_none : (image held : Option (List ℕ)) (w : World SessionView Load) (wire : List Passed) → (load : Load) × (load.loading ≡ begun) × (LONGEST ≤ load.room) × (w ≡ fresh_world (fresh Idle) load) → wire ≡ [] → Sized image → IfSome image IsBytes → IsUnderway image held w false wire held

@@ -27,7 +27,7 @@ use Rattle.unit_download.specs.declared.wire.Passed.{Passed}
 use Rattle.unit_download.specs.declared.fault.DownloadFault.{DownloadFault}
 use Rattle.unit_download.specs.declared.fault.DownloadFault.TheVariants.{Failed, BadUnit, Changed, WriteFault, Memory}
 use Rattle.unit_download.specs.Wires.{of_loader, of_unit, talk_of, Replies}
-use Rattle.unit_download.specs.Ending.{IfBad, IsDownload, IsUnanswered}
+use Rattle.unit_download.specs.Ending.{IfBad, IsDownload, IsUnanswered, IsDownloaded}
 use Rattle.unit_download.specs.Ending as ending
 use Rattle.unit_download.proofs.Opening.{Begins, nothing_out}
 use Rattle.unit_download.proofs.Talking.{IsTalking, IsAnswered, fresh_knows, unanswered_ends, unanswered_untold, unanswered_front, untaken_ends, untaken_untold, untaken_front, talking_done, talking_file}
@@ -45,7 +45,6 @@ use Rattle.noisy_link.specs.Steps as step
 use Rattle.noisy_link.proofs.Talking.{at}
 use Rattle.noisy_link.proofs.Told.{IsKnown, known}
 use Rattle.noisy_link.proofs.Whole.{new_is}
-use Rattle.noisy_download.specs.Ending.{IsDownloaded}
 use Rattle.noisy_download.specs.Listing.{listing_sides, listing, with_list, IsUnsent, Lists, IsUnderway}
 use Rattle.noisy_download.proofs.Listed.{listed_run, unlisted}
 

@@ -18,7 +18,7 @@ use Rattle.noisy_model.specs.Ends.{Sides, Taken, request_of}
 use Rattle.noisy_model.specs.Worlds.{World, fresh_world, Passes}
 use Rattle.noisy_link.specs.Sides.{Sized, IsReply, asked, puts_of}
 use Rattle.noisy_link.specs.Steps.{frame_of, brought_by}
-use Rattle.noisy_download.specs.Ending.{IsDownloaded}
+use Rattle.unit_download.specs.Ending.{IsDownloaded}
 
 -- a loader, and the exchanges that have passed with it
 pub record Listing : Type 0 where
@@ -32,6 +32,7 @@ pub record ListTakes (old : Listing) (frame : List ℕ) (new : Listing) (put : L
   pub asks : asked old.load ≡ Some request
   pub lists : new.exchanges ≡ old.exchanges ++ of_loader request ∷ of_unit frame ∷ []
 
+-- it asks by the frame of its stage
 abbrev pub asked_by : Listing → Option (List ℕ)
 asked_by l = asked l.load
 
@@ -39,6 +40,7 @@ asked_by l = asked l.load
 abbrev pub listing_sides : (image : Option (List ℕ)) → Sides SessionView Listing
 listing_sides image = record { asks = asked_by; Answers = IsReply image; Takes = ListTakes }
 
+-- a loader with the exchanges that have passed with it
 abbrev pub listing : Load → List Passed → Listing
 listing load exchanges = record { load = load; exchanges = exchanges }
 

@@ -13,5 +13,6 @@ event_of zero late sent answered = Some Send
 event_of (suc zero) late sent answered = option_map ToUnit (before_last sent late)
 event_of (suc (suc kind)) late sent answered = option_map ToLoader (before_last answered late)
 
+-- the event that a number draws, where so many packets were sent and so many answers given
 abbrev pub event_drawn : (x sent answered : ℕ) → Option Event
 event_drawn x sent answered = event_of (x / 65536 % 3) (x / 256 % 3) sent answered

@@ -1,14 +1,14 @@
+//! A download over a noisy link, round by round: events that are drawn, and what of them goes to the wire.
 ghost use Rattle.std.specs.Prelude.{◌≡◌, ◌≤◌, [], ℕ, List, Option, slice_get, OnOk, IfErr, IfSome, IsErrOf};
 ghost use Rattle.tach_media.specs.Medium.{Rose};
 ghost use Rattle.unit_model.specs.declared.layout.TheConstants.{IMAGE_SIZE};
 ghost use Rattle.unit_model.specs.Image.{IsUnit};
 ghost use Rattle.unit_minutes.specs.Reading.{ReadsIfAny};
 ghost use Rattle.link_session.specs.Told.{Knows};
-ghost use Rattle.unit_download.specs.Ending.{has_failed};
+ghost use Rattle.unit_download.specs.Ending.{has_failed, IsDownloaded};
 ghost use Rattle.noisy_model.specs.Ends.{request_of};
 ghost use Rattle.noisy_link.specs.Sides.{asked};
 ghost use Rattle.noisy_link.specs.Steps.{frame_of, brought_by};
-ghost use Rattle.noisy_download.specs.Ending.{IsDownloaded};
 ghost use Rattle.noisy_download.specs.Listing.{DownloadGoesOn, IsListed, RequestIsListed, AnswerIsListed, IsUnderway};
 
 use crate::draws::drawn_event;
@@ -20,12 +20,14 @@ use tach_media::{Medium, Sink};
 use trace_text::next_drawn;
 use unit_download::{DownloadFault, Tape, Wire};
 
-/// A download over a noisy link as it goes: both ends, whether the wire has the request that is asked now, and the
-/// number drawn last.
+/// A download over a noisy link as it goes.
 #[derive(Drop)]
 pub struct Noisy {
+    /// Both ends, and all packets that were sent.
     pub world: World,
+    /// Whether the wire has the request that is asked now.
     pub listed: bool,
+    /// The number that was drawn last.
     pub drawn: u32,
 }
 
@@ -69,7 +71,7 @@ pub fn download_noisy<K: Sink, U: Medium>(
 }
 
 impl Noisy {
-    // The next number that is drawn.
+    /// The next number that is drawn.
     fn draw(&mut self) -> u32
         ensures world { self.new.world ≡ self.old.world }
         ensures listed { self.new.listed ≡ self.old.listed }
@@ -78,7 +80,7 @@ impl Noisy {
         self.drawn
     }
 
-    // A round: up to five events that are drawn, and an exchange.
+    /// A round: up to five events that are drawn, and an exchange.
     fn round<K: Sink, U: Medium>(
         &mut self,
         sink: &mut K,
@@ -103,7 +105,7 @@ impl Noisy {
         self.exchange(sink, unit, wire)
     }
 
-    // An event that is drawn.
+    /// An event that is drawn.
     fn stray<K: Sink, U: Medium>(
         &mut self,
         sink: &mut K,
@@ -128,7 +130,7 @@ impl Noisy {
         self.happen(&event, sink, unit, wire)
     }
 
-    // The loader's end sends, what was sent last comes to the unit's end, and the last answer to the loader's.
+    /// The loader's end sends, what was sent last comes to the unit's end, and the last answer to the loader's.
     fn exchange<K: Sink, U: Medium>(
         &mut self,
         sink: &mut K,
@@ -153,7 +155,7 @@ impl Noisy {
         self.happen(&Event::ToLoader(answered), sink, unit, wire)
     }
 
-    // What an event does, while the download is not over.
+    /// What an event does, while the download is not over.
     fn happen<K: Sink, U: Medium>(
         &mut self,
         event: &Event,
@@ -179,7 +181,7 @@ impl Noisy {
         self.world.step(unit, event, sink)
     }
 
-    // What an event adds to the wire.
+    /// What an event adds to the wire.
     fn list(&mut self, event: &Event, wire: &mut Wire) -> Result<(), DownloadFault>
         ensures world { self.new.world ≡ self.old.world }
         ensures listed { OnOk result (IsListed self.old.world self.old.listed event.now wire.old self.new.listed
@@ -193,7 +195,7 @@ impl Noisy {
         }
     }
 
-    // The request that is asked now, if it is not on the wire.
+    /// The request that is asked now, if it is not on the wire.
     fn list_request(&mut self, wire: &mut Wire) -> Result<(), DownloadFault>
         ensures world { self.new.world ≡ self.old.world }
         ensures listed { OnOk result (RequestIsListed self.old.listed
@@ -213,7 +215,7 @@ impl Noisy {
         Ok(())
     }
 
-    // The answer that the packet of this place brings.
+    /// The answer that the packet of this place brings.
     fn list_answer(&mut self, place: u32, wire: &mut Wire) -> Result<(), DownloadFault>
         ensures world { self.new.world ≡ self.old.world }
         ensures listed { OnOk result (AnswerIsListed

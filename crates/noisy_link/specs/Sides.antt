@@ -33,6 +33,7 @@ asked l = sent_at l.loading.stage
 abbrev pub Loads : (old : Load) → (frame : List ℕ) → (new : Load) → (put : List ℕ) → Type 0
 Loads old frame new put = Takes old.loading frame new.loading put
 
+-- the two sides of a download of this image
 abbrev pub download_sides : (image : Option (List ℕ)) → Sides SessionView Load
 download_sides image = record { asks = asked; Answers = IsReply image; Takes = Loads }
 
@@ -78,6 +79,7 @@ state_after messages state [] = state
 state_after messages state (request ∷ requests) = state_after messages (answered messages state (Right request)).state
     requests
 
+-- 1 for bytes, 0 for none
 abbrev pub one_if_any : List ℕ → ℕ
 one_if_any [] = 0
 one_if_any (byte ∷ bytes) = 1

@@ -98,12 +98,13 @@ IsTaking (Err Memory) old o new held sunk = (p : Packet) × (o ≡ Some p) × La
     × Keeps held sunk
 IsTaking (Err fault) old o new held sunk = (p : Packet) × (o ≡ Some p) × IsRefusal fault old p new held sunk
 
--- the packet that comes to the unit's end, and the one that comes to the loader's
+-- the packet that comes to the unit's end, if any
 abbrev pub to_unit : World SessionView Load → Event → Option Packet
 to_unit w Send = None
 to_unit w (ToUnit place) = slice_get w.sent place
 to_unit w (ToLoader place) = None
 
+-- the packet that comes to the loader's end, if any
 abbrev pub to_loader : World SessionView Load → Event → Option Packet
 to_loader w Send = None
 to_loader w (ToUnit place) = None

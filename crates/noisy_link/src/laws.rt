@@ -1,3 +1,4 @@
+//! What holds of a noisy link: laws, which are functions without a body.
 ghost use Rattle.std.specs.Prelude.{◌≡◌, ◌<◌, ◌≤◌, ◌^◌, ℕ, List, Option, Some, IfSome, length, map, take, slice_get};
 ghost use Rattle.std.specs.Io.KnownBytes.{Appends};
 ghost use Rattle.tach_media.specs.Streams.{AppendsFront};
@@ -13,6 +14,7 @@ ghost use Rattle.link_loader.specs.Loading.{Loading, Load, begun, Takes, IsRefus
 ghost use Rattle.link_loader.specs.declared.fault.LoadFault.{LoadFault};
 ghost use Rattle.unit_download.specs.Ending.{IsOfFrame};
 ghost use Rattle.link_loader.specs.Talking.{IsUnitImage};
+ghost use Rattle.link_model.specs.declared.lengths.TheConstants.{FRAME_MOST};
 ghost use Rattle.noisy_model.specs.declared.event.Event.{Event as Happening};
 ghost use Rattle.noisy_model.specs.declared.packet.Packet.{Packet as Sent};
 ghost use Rattle.noisy_model.specs.Ends.{Taken, New, arrival_by, brought};
@@ -89,7 +91,7 @@ pub fn a_noisy_download_goes_to_a_sink()
 /// What is written of a packet is read as that packet, and bytes that are read as a packet are those that are written
 /// of it.
 pub fn packets_are_read_as_written()
-    ensures read { (p : Sent) → p.number < 2 ^ 64 → IfSome p.frame (λ frame. (0 < length frame) × (length frame ≤ 255))
-        → packet_in (packet_bytes p) ≡ Some p }
+    ensures read { (p : Sent) → p.number < 2 ^ 64
+        → IfSome p.frame (λ frame. (0 < length frame) × (length frame ≤ FRAME_MOST)) → packet_in (packet_bytes p) ≡ Some p }
     ensures written { (bytes : List ℕ) (p : Sent) → IsBytes bytes → packet_in bytes ≡ Some p → packet_bytes p ≡ bytes }
 {}

@@ -1,3 +1,4 @@
+//! The loader's end of a noisy link.
 ghost use Rattle.std.specs.Prelude.{◌≡◌, ◌≤◌, ◌+◌, ◌<◌, ◌^◌, ℕ, List, Some, IfOk, IfErr, IsErrOf, OnOk, length};
 ghost use Rattle.std.specs.Io.KnownBytes.{Appends};
 ghost use Rattle.tach_media.specs.Medium.{Rose};
@@ -137,7 +138,7 @@ impl LoaderEnd {
     }
 }
 
-// The number behind a refusal.
+/// The number behind a refusal.
 fn number_left(fault: LoadFault, number: u64) -> u64
     requires { number + 1 < 2 ^ 64 }
     ensures { result ≡ number_left fault number }

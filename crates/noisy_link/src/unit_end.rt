@@ -1,3 +1,4 @@
+//! The unit's end of a noisy link.
 ghost use Rattle.unit_model.specs.declared.layout.TheConstants.{IMAGE_SIZE};
 ghost use Rattle.std.specs.Prelude.{◌≡◌, ◌+◌, ◌==◌, ℕ, List, true, false, Some, IfOk, OnOk, IfErr, OnErr, IfSome};
 ghost use Rattle.link_model.specs.Answers.{Idle};
@@ -97,14 +98,14 @@ impl UnitEnd {
     }
 }
 
-// Whether this number is the one behind the last.
+/// Whether this number is the one behind the last.
 fn is_next(last: u64, number: u64) -> bool
     ensures { result ≡ (number == last + 1) }
 {
     number > 0 && number - 1 == last
 }
 
-// A frame that was heard.
+/// A frame that was heard.
 fn heard(frame: &Frame) -> Seen
     ensures { meant result ≡ Right frame.now }
 {

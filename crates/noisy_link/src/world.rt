@@ -1,3 +1,4 @@
+//! A download over a noisy link, event by event.
 ghost use Rattle.unit_model.specs.declared.layout.TheConstants.{IMAGE_SIZE};
 ghost use Rattle.std.specs.Prelude.{false, ◌≡◌, ◌≤◌, ◌<◌, ◌-◌, ◌++◌, ◌==◌, ◌&&◌, not, is_none, ℕ, Some, OnOk, IfOk};
 ghost use Rattle.std.specs.Prelude.{IfErr, IfSome, IsErrOf, option_to_list, length, slice_get};
@@ -188,7 +189,7 @@ impl World {
     }
 }
 
-// The loader's end sends, if it has anything to send.
+/// The loader's end sends, if it has anything to send.
 fn send(loader: &LoaderEnd, sent: &mut Vec<Packet>) -> Result<(), DownloadFault>
     requires few { length sent.old.items ≤ 2147483648 }
     ensures sent { OnOk result (sent.new.items ≡ sent.old.items ++ option_to_list (request_of asked loader.now)) }
@@ -204,7 +205,7 @@ fn send(loader: &LoaderEnd, sent: &mut Vec<Packet>) -> Result<(), DownloadFault>
     Ok(())
 }
 
-// The packet of this place, if there is one, comes to the unit's end, and what goes back is added to the answers.
+/// The packet of this place, if there is one, comes to the unit's end, and what goes back is added to the answers.
 fn come_to_unit<M: Medium>(
     end: &mut UnitEnd,
     unit: &mut M,
@@ -244,14 +245,14 @@ fn come_to_unit<M: Medium>(
     }
 }
 
-// Whether a packet that goes back says that there is no answer, to another request than the last one before.
+/// Whether a packet that goes back says that there is no answer, to another request than the last one before.
 fn is_silence(answer: &Packet, last: u64) -> bool
     ensures { result ≡ (is_none answer.now.frame && not (answer.now.number == last)) }
 {
     answer.frame.is_none() && answer.number != last
 }
 
-// The answer of this place, if there is one, comes to the loader's end.
+/// The answer of this place, if there is one, comes to the loader's end.
 fn come_to_loader<K: Sink>(
     end: &mut LoaderEnd,
     answers: &[Packet],

@@ -11,6 +11,7 @@ pub record Sides (U L : Type 0) : Type 1 where
   pub Answers : (old : U) → (request : List ℕ) → (answer : Option (List ℕ)) → (new : U) → Type 0
   pub Takes : (old : L) → (frame : List ℕ) → (new : L) → (put : List ℕ) → Type 0
 
+-- a packet of this number, with this frame or none
 abbrev pub packet : ℕ → Option (List ℕ) → Packet
 packet number frame = record { number = number; frame = frame }
 

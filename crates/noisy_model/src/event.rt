@@ -1,3 +1,5 @@
+//! What may happen on a noisy link.
+
 /// What happens on a noisy link. What is lost is delivered never, what is repeated again and again, what is late behind
 /// others.
 #[derive(Clone, Copy, Debug, PartialEq, Eq)]

@@ -6,4 +6,4 @@ mod event;
 mod packet;
 
 pub use event::Event;
-pub use packet::Packet;
+pub use packet::{PACKET_HEADER, PACKET_MOST, PACKET_START, Packet};

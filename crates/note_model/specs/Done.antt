@@ -26,7 +26,8 @@ carried_from log s n (a ∷ actions) c =
     then record { before = n; action = a; slots = c.slots; after = (acted log s n a c).slots } ∷ [] else [])
     ++ carried_from log s (n + 1) actions (acted log s n a c)
 
--- a second of a run
+-- what was done in a second of a run: how it went, the slots behind its power-on, the actions that were carried out,
+-- and the slots behind these
 pub record Done : Type 0 where
   pub told : ToldSecond
   pub powered : Slots
@@ -38,6 +39,7 @@ abbrev pub course_powered : RunLog → Before → TraceSecond → Course
 course_powered log before s = both_told log s.number (In 0) (unmoved (not before.running))
     (fresh (not before.running) before.slots)
 
+-- what is done in a second by this log, where it has this to know of those before it
 abbrev pub done_by : RunLog → Before → TraceSecond → Done
 done_by log before s = record {
   told = second_told log before s;
@@ -47,12 +49,12 @@ done_by log before s = record {
       else before.slots;
 }
 
--- these seconds one after another, behind others
+-- what is done in these seconds one after another, where the first has this to know of those before it
 abbrev pub done_from : RunLog → Before → List TraceSecond → List Done
 done_from log before [] = []
 done_from log before (s ∷ ss) = done_by log before s ∷ done_from log (before_next before (second_told log before s)) ss
 
--- the seconds of a run
+-- what is done in the seconds of a run
 unfoldable pub done_of : RunLog → List TraceSecond → List Done
 done_of log ss = done_from log not_begun.before ss
 

@@ -64,6 +64,7 @@ abbrev pub noted_in : RunLog → Done → List Note
 noted_in log d = accepted_at d (In 0)
     ++ flat_map (λ a. noted_by log d.told.second.number a a.action ++ accepted_at d (In (a.before + 1))) d.carried
 
+-- what the seconds of a run note, in order
 unfoldable pub notes_of : RunLog → List Done → List Note
 notes_of log done = flat_map (noted_in log) done
 
@@ -90,11 +91,12 @@ with_note is (Enters p) = is
 abbrev pub insertions_of : List Note → List InsertionNote
 insertions_of notes = fold with_note [] notes
 
--- its places, in order
+-- a note as a list of places: one where it is a place, else none
 abbrev pub place_in : Note → List PlaceNote
 place_in (Accepts a) = []
 place_in (Withdraws w) = []
 place_in (Enters p) = p ∷ []
 
+-- the places among these notes, in order
 abbrev pub places_of : List Note → List PlaceNote
 places_of notes = flat_map place_in notes

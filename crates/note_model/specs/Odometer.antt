@@ -53,11 +53,12 @@ pub data MayStore (rule : Rule) (start start_kept : ℕ) (spans : List SpanFrom)
       → IsBeingKept rule s.span d.minute → kept < d.minute →
       MayStore rule start start_kept spans kept (odometer_at_end d.minute s)
 
--- what was found kept after the last of these spans; at first what was kept at the start
+-- what was found kept after the cut of this second; without one what was kept at the start
 abbrev pub found_kept : RunLog → (start_kept : ℕ) → Option ToldSecond → ℕ
 found_kept log start_kept None = start_kept
 found_kept log start_kept (Some t) = kept_after log t.second.number
 
+-- the last second of the last of these spans
 abbrev pub last_second : List SpanFrom → Option ToldSecond
 last_second [] = None
 last_second (s ∷ []) = last s.span

@@ -103,9 +103,10 @@ module _ (log : RunLog) (spans : List SpanFrom) (holder : Card → Holder) where
     pub region : number_in place_widths 4 e ≡ p.region
     pub odometer : number_in place_widths 5 e ≡ odometer_at p.second spans
 
-  -- noted in a second in which no call on the unit failed
+  -- an insertion is sure: it was noted in a second in which no call on the unit failed
   abbrev pub is_sure_insertion : InsertionNote → Bool
   is_sure_insertion i = not (has_failed_in log i.accepted.second)
 
+  -- a place is sure: it was noted in a second in which no call on the unit failed
   abbrev pub is_sure_place : PlaceNote → Bool
   is_sure_place p = not (has_failed_in log p.second)

@@ -16,15 +16,17 @@ use Rattle.event_model.specs.Kinds.{purpose_of, purpose_number, places_of}
 use Rattle.event_model.specs.Places.{day_place, place_of, similar_after}
 use Rattle.event_model.specs.Events.{Event}
 
--- type, purpose, begin, end, card numbers of driver and co-driver at begin and at end, similar events; a fault has all
--- but the last
+-- the fields of an event in bytes: type, purpose, begin, end, card numbers of driver and co-driver at begin and at end,
+-- similar events
 abbrev pub event_widths : List ℕ
 event_widths = 1 ∷ 1 ∷ 4 ∷ 4 ∷ 18 ∷ 18 ∷ 18 ∷ 18 ∷ 1 ∷ []
 
+-- the fields of a fault in bytes: those of an event but the similar events
 abbrev pub fault_widths : List ℕ
 fault_widths = 1 ∷ 1 ∷ 4 ∷ 4 ∷ 18 ∷ 18 ∷ 18 ∷ 18 ∷ []
 
--- type, purpose, begin, end, highest and average speed, the driver's card number at begin, similar events
+-- the fields of an over speeding in bytes: type, purpose, begin, end, highest and average speed, the driver's card
+-- number at begin, similar events
 abbrev pub over_widths : List ℕ
 over_widths = 1 ∷ 1 ∷ 4 ∷ 4 ∷ 1 ∷ 1 ∷ 18 ∷ 1 ∷ []
 
@@ -33,7 +35,7 @@ abbrev pub widths_of : ℕ → List ℕ
 widths_of kind = if nat_eq kind OVER_SPEEDING then over_widths
     else (if nat_eq kind CARD_FAULT then fault_widths else event_widths)
 
--- where the places of a type begin: those of events stand by types in this order
+-- in which order the events stand by types, from 0
 abbrev pub order_of : ℕ → ℕ
 order_of kind =
     if nat_eq kind CARD_NOT_VALID then 0
@@ -41,6 +43,7 @@ order_of kind =
     else (if nat_eq kind DRIVING_WITHOUT_CARD then 2
     else (if nat_eq kind INSERTION_WHILE_DRIVING then 3 else (if nat_eq kind SESSION_NOT_CLOSED then 4 else 5))))
 
+-- where the places of a type begin in an image
 abbrev pub base_of : ℕ → ℕ
 base_of kind =
     if nat_eq kind OVER_SPEEDING then OVERS.place
@@ -57,11 +60,12 @@ table_of kind = record {
   gate = 2;
 }
 
--- what stands at each of them, empty ones too
+-- what stands at each place of a type, empty places too
 unfoldable pub table_in : ℕ → List ℕ → List (List ℕ)
 table_in kind x = map (entry_at (table_of kind) x) (range_with_len 0 (places_of kind))
 
--- what an entry tells of the event's place
+-- what an entry of a type tells of its event where places are compared: first and last second, and of an over speeding
+-- the average speed
 abbrev pub held_in : ℕ → List ℕ → Held
 held_in kind e = record {
   begin = number_in (widths_of kind) 2 e;
@@ -69,6 +73,7 @@ held_in kind e = record {
   weight = if nat_eq kind OVER_SPEEDING then number_in over_widths 5 e else 0;
 }
 
+-- what an event tells of itself there
 abbrev pub held_of : Event → Held
 held_of e = record { begin = e.begin; end = e.end; weight = e.average }
 
@@ -92,13 +97,13 @@ pub record HasNumbers (number : Card → List ℕ) (e : Event) (bytes : List ℕ
   pub driver_end : field_at event_widths 6 bytes ≡ number_or_none number e.at_end.driver
   pub codriver_end : field_at event_widths 7 bytes ≡ number_or_none number e.at_end.codriver
 
--- and an over speeding
+-- the speeds and the card number that an over speeding has
 pub record HasSpeeds (number : Card → List ℕ) (e : Event) (bytes : List ℕ) : Type 0 where
   pub most : number_in over_widths 4 bytes ≡ e.most
   pub average : number_in over_widths 5 bytes ≡ e.average
   pub driver_begin : field_at over_widths 6 bytes ≡ number_or_none number e.at_begin.driver
 
--- one or the other
+-- an entry has what its type has behind the front: that of an over speeding, or that of any other
 abbrev pub HasRest : (Card → List ℕ) → (is_over : Bool) → Event → List ℕ → Type 0
 HasRest number true e bytes = HasSpeeds number e bytes
 HasRest number false e bytes = HasNumbers number e bytes
@@ -143,6 +148,7 @@ module _ (number : Card → List ℕ) where
       (slice_index_or old i []) bytes
   IsNotedAt old e None None new = new ≡ old
 
+  -- an event was noted where it belongs by what stands at the places of its type
   abbrev pub IsNoted : List (List ℕ) → Event → List (List ℕ) → Type 0
   IsNoted old e new =
       IsNotedAt old e (place_of e.kind (map (held_in e.kind) old) (held_of e))

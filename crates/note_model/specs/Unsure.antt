@@ -41,7 +41,7 @@ abbrev pub IsFirstSo : (is_sure : Bool) → (held : ℕ) → Event → (now : �
 IsFirstSo true held e now = now ≡ (if nat_eq held 0 then e.begin else held)
 IsFirstSo false held e now = (now ≡ held) ⊎ (now ≡ (if nat_eq held 0 then e.begin else held))
 
--- and behind these, one after the other
+-- the begin of the first over speeding behind these, one after the other
 abbrev pub IsFirstBut : (Event → Bool) → (held : ℕ) → List Event → (now : ℕ) → Type 0
 IsFirstBut sure held [] now = now ≡ held
 IsFirstBut sure held (e ∷ overs) now = (next : ℕ) × IsFirstSo (sure e) held e next × IsFirstBut sure next overs now

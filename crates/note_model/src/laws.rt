@@ -1,3 +1,4 @@
+//! The seconds that are looked at here are those of the run: a law.
 ghost use Rattle.std.specs.Prelude.{◌≡◌, List, map};
 ghost use Rattle.event_model.specs.trace_model.Trace.{TraceSecond};
 ghost use Rattle.history_model.specs.log_model.Log.{RunLog};

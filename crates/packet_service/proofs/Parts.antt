@@ -101,8 +101,3 @@ pub half_tells : (l : List ℕ) → length l < 2 → More ≡ gathered l
 half_tells [] half = refl
 half_tells (high ∷ []) half = refl
 half_tells (high ∷ low ∷ bytes) half = absurd (omega arith)
-
-pub half_drop : (l : List ℕ) → length l < 2 → [] ≡ drop 2 l
-half_drop [] half = refl
-half_drop (high ∷ []) half = refl
-half_drop (high ∷ low ∷ bytes) half = absurd (omega arith)

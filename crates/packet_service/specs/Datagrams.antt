@@ -40,6 +40,7 @@ pub record IsTooLong (part : List ℕ) : Type 0 where
 abbrev pub gathered_by : (size count : ℕ) → Gathered
 gathered_by size count = if nat_lt LONGEST size then TooLong else if count == size then Whole else More
 
+-- the same, by the bytes themselves: the first two tell the length
 abbrev pub gathered : List ℕ → Gathered
 gathered [] = More
 gathered (high ∷ []) = More

@@ -29,11 +29,12 @@ abbrev pub sent_behind : List Taken → LoaderEnd Load → List Packet
 sent_behind [] e = []
 sent_behind (t ∷ took) e = sent_by e
 
--- what comes to the loader's end: an empty datagram, by which it sends again; a packet; or what is none
+-- a packet comes to the loader's end, or what is none
 abbrev pub TakesAny : LoaderEnd Load → Option Packet → LoaderEnd Load → List Taken → List Packet → Type 0
 TakesAny old None new took out = (new ≡ old) × (took ≡ []) × (out ≡ [])
 TakesAny old (Some p) new took out = TakesBy Loads old (brought asked old p) new took × (out ≡ sent_behind took new)
 
+-- a datagram comes: by an empty one it sends again, any other is a packet or none
 abbrev pub TakesDatagram : LoaderEnd Load → (datagram : List ℕ) → LoaderEnd Load → List Taken → List Packet → Type 0
 TakesDatagram old [] new took out = (new ≡ old) × (took ≡ []) × (out ≡ sent_by old)
 TakesDatagram old (byte ∷ bytes) new took out = TakesAny old (packet_in (byte ∷ bytes)) new took out
@@ -126,12 +127,13 @@ abbrev pub LoadStopsAt : PacketsFault → (came : List ℕ) → (held sunk : Sin
 LoadStopsAt TooLong came held sunk = StopsLong came held sunk
 LoadStopsAt fault came held sunk = StopsTaking fault came held sunk
 
--- what a byte leaves of a download, and what some bytes leave
+-- what a byte leaves of a download
 abbrev pub Loading : Result (Unit {0}) PacketsFault → (came part : List ℕ) → LoaderEnd Load → (held sunk : Sinks)
     → Type 0
 Loading (Ok done) came part end held sunk = IsLoading came part end held sunk
 Loading (Err fault) came part end held sunk = LoadStopsAt fault came held sunk
 
+-- what some bytes leave of a download
 abbrev pub LoadingAll : Result (Unit {0}) PacketsFault → (came bytes part : List ℕ) → LoaderEnd Load
     → (held sunk : Sinks) → Type 0
 LoadingAll (Ok done) came bytes part end held sunk = IsLoading (came ++ bytes) part end held sunk
@@ -171,6 +173,7 @@ PacketsLoad (Err WriteFault) came held sunk = IsUnbegun held sunk
 PacketsLoad (Err Memory) came held sunk = (sunk ≡ held) ⊎ ((n : ℕ) × StopsTaking Memory (take n came) held sunk)
 PacketsLoad (Err fault) came held sunk = (n : ℕ) × StopsTaking fault (take n came) held sunk
 
+-- THE BYTES THAT CAME from the source, and how the download ended at them
 pub record ArePacketsLoaded (r : Result (Unit {0}) PacketsFault) (left unread : Option (List ℕ))
     (held sunk : Sinks) : Type 0 where
   pub came : List ℕ

@@ -129,6 +129,7 @@ PacketsSend (Err TooLong) image came held sunk = (AllAnswered image came held su
     ⊎ ((n : ℕ) × StopsLong image (take n came) held sunk)
 PacketsSend (Err fault) image came held sunk = (n : ℕ) × StopsAt fault image (take n came) held sunk
 
+-- THE BYTES THAT CAME from the source, and what the sink took for them
 pub record ArePacketsServed (r : Result (Unit {0}) ServeFault) (image left unread held sunk : Option (List ℕ)) : Type
     0 where
   pub came : List ℕ

@@ -3,15 +3,22 @@ ghost use Rattle.std.specs.Prelude.{◌≡◌, ◌<◌, ◌++◌, [], ◌∷◌,
 ghost use Rattle.packet_service.specs.Datagrams.{gathered, gathered_by, datagram};
 
 use arrayvec::ArrayVec;
+use byteorder::{BigEndian, ByteOrder};
+use noisy_model::PACKET_MOST;
 use std::marker::Model;
 
-/// As many bytes as a datagram has at most: those of the longest packet.
-pub const LONGEST: usize = 264;
+/// How many bytes a datagram has at most: those of the longest packet.
+pub const LONGEST: usize = PACKET_MOST as usize;
 
-/// What a byte more makes of a datagram.
+/// For how many bytes there is room: those of the longest datagram, behind its length.
+pub const ROOM: usize = LONGEST + 2;
+
+/// What a datagram is with a byte more.
 #[derive(Clone, Copy, Debug, PartialEq, Eq)]
 pub enum Gathered {
+    /// Some of it are still to come.
     More,
+    /// It is whole.
     Whole,
     /// Its length is more than 264.
     TooLong,
@@ -20,7 +27,7 @@ pub enum Gathered {
 /// What has come of the next datagram, with its length.
 #[derive(Drop)]
 pub struct Gathering {
-    kept: ArrayVec<u8, 266>,
+    kept: ArrayVec<u8, ROOM>,
 }
 
 impl Model for Gathering {
@@ -43,7 +50,7 @@ impl Gathering {
 
     /// A byte more comes.
     pub fn take(&mut self, byte: u8) -> Gathered
-        requires { length self.old < 266 }
+        requires { length self.old < ROOM }
         ensures grown { self.new ≡ self.old ++ byte ∷ [] }
         ensures gathered { result ≡ gathered self.new }
     {
@@ -70,17 +77,18 @@ impl Gathering {
     }
 }
 
-// What bytes are, of which all but the last were a part.
+/// What bytes are, of which all but the last were a part.
 fn told_by(kept: &[u8]) -> Gathered
     ensures { result ≡ gathered kept.now }
 {
     if kept.len() < 2 {
         return Gathered::More;
     }
-    gathered_by(256 * kept[0] as usize + kept[1] as usize, kept.len() - 2)
+    let size = BigEndian::read_u16(kept);
+    gathered_by(size as usize, kept.len() - 2)
 }
 
-// By the length that is told, and how many bytes are there.
+/// By the length that is told, and how many bytes are there.
 fn gathered_by(size: usize, count: usize) -> Gathered
     ensures { result ≡ gathered_by size count }
 {
@@ -93,14 +101,15 @@ fn gathered_by(size: usize, count: usize) -> Gathered
     Gathered::More
 }
 
-/// A datagram behind its length.
-pub fn write_datagram(bytes: &[u8]) -> ArrayVec<u8, 266>
-    requires { length bytes.now < 265 }
+/// A datagram behind its length in two bytes, the highest first.
+pub fn write_datagram(bytes: &[u8]) -> ArrayVec<u8, ROOM>
+    requires { length bytes.now ≤ LONGEST }
     ensures { result.items ≡ datagram bytes.now }
 {
+    let [high, low] = (bytes.len() as u16).to_be_bytes();
     let mut whole = ArrayVec::new();
-    whole.push((bytes.len() / 256) as u8);
-    whole.push((bytes.len() % 256) as u8);
+    whole.push(high);
+    whole.push(low);
     let _ = whole.try_extend_from_slice(bytes);
     whole
 }

@@ -1,3 +1,4 @@
+//! A file as a sink, which the first write makes.
 ghost use Rattle.std.specs.Prelude.{◌≡◌, length, IfOk};
 ghost use Rattle.std.specs.Io.{WritesAtMost};
 
@@ -9,6 +10,7 @@ use tach_media::{Failed, Sink, StdSink};
 enum Backing {
     // Nothing was written yet.
     Unopened,
+    // It is written.
     Open(StdSink<File>),
     // It cannot be made: every write fails.
     Lost,
@@ -54,7 +56,7 @@ impl<'a, R: Files<File = File>> Sink for FileSink<'a, R> {
     }
 }
 
-// Makes the file anew, at the first write.
+/// Makes the file anew, at the first write.
 fn reach<R: Files<File = File>>(files: &R, path: &str, backing: &mut Backing) {
     if let Backing::Unopened = backing {
         let mut options = OpenOptions::new();
@@ -66,7 +68,7 @@ fn reach<R: Files<File = File>>(files: &R, path: &str, backing: &mut Backing) {
     }
 }
 
-// Writes to the file, where it could be made.
+/// Writes to the file, where it could be made.
 fn put(backing: &mut Backing, piece: &[u8]) -> Result<usize, Failed>
     ensures bound { WritesAtMost result piece.now }
     ensures some { IfOk result (λ n. n ≡ 0 → length piece.now ≡ 0) }

@@ -1,3 +1,4 @@
+//! The loader's end of a link of packets over streams of bytes.
 ghost use Rattle.std.specs.Prelude.{◌≡◌, ◌≤◌, ◌++◌, [], ◌∷◌, ℕ, List, OnOk, IfErr};
 ghost use Rattle.tach_media.specs.Medium.{Rose};
 ghost use Rattle.std.specs.Io.KnownBytes.{Appends};
@@ -31,13 +32,16 @@ pub enum PacketsFault {
     TooLong,
     /// The source ended.
     Ended,
+    /// Memory ran out: for the room of a message before the first request, or for a piece.
     Memory,
 }
 
-/// The loader's end of a link of packets: where it stands, and what has come of the next datagram.
+/// The loader's end of a link of packets.
 #[derive(Drop)]
 pub struct LoaderLine {
+    /// Where it stands.
     pub end: LoaderEnd,
+    /// What has come of the next datagram.
     pub gathering: Gathering,
 }
 
@@ -93,7 +97,7 @@ pub fn download_packets<S: Peer<K>, K: Sink, F: Sink>(
 }
 
 impl LoaderLine {
-    // These bytes come.
+    /// These bytes come.
     fn take_all<K: Sink, F: Sink>(
         &mut self,
         bytes: &[u8],
@@ -118,7 +122,7 @@ impl LoaderLine {
         Ok(())
     }
 
-    // A byte comes.
+    /// A byte comes.
     fn take<K: Sink, F: Sink>(
         &mut self,
         byte: u8,
@@ -149,7 +153,7 @@ impl LoaderLine {
     }
 }
 
-// A datagram comes.
+/// A datagram comes.
 fn hear<K: Sink, F: Sink>(
     end: &mut LoaderEnd,
     bytes: &[u8],
@@ -185,7 +189,7 @@ fn hear<K: Sink, F: Sink>(
     }
 }
 
-// The loader's end sends, if it has anything to send.
+/// The loader's end sends, if it has anything to send.
 fn send<K: Sink>(end: &LoaderEnd, link: &mut K) -> Result<(), PacketsFault>
     ensures ok { OnOk result (Appends (K.held link.old) (K.held link.new) (stream_of_packets (sent_by end.now))) }
     ensures err { IfErr result (λ fault. (fault ≡ PacketsFault.WriteFault)

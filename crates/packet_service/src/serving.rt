@@ -1,3 +1,4 @@
+//! The unit's end of a link of packets over streams of bytes.
 ghost use Rattle.std.specs.Prelude.{◌≡◌, ◌≤◌, ◌++◌, [], ◌∷◌, ℕ, List, Option, Some, OnOk, OnErr, IfErr, IfSome};
 ghost use Rattle.std.specs.Io.KnownBytes.{Appends, IsAtEnd};
 ghost use Rattle.tach_media.specs.Medium.{Rose};
@@ -19,13 +20,15 @@ use noisy_link::{UnitEnd, read_packet, write_packet};
 use noisy_model::Packet;
 use tach_media::{Failed, Medium, Sink, put_all};
 
-/// As many reads as a service makes at most.
+/// As many reads as a service, or a download, makes at most.
 pub const MOST_TURNS: u32 = 4294967295;
 
-/// The unit's end of a link of packets: where it stands, and what has come of the next datagram.
+/// The unit's end of a link of packets.
 #[derive(Drop)]
 pub struct UnitLine {
+    /// Where it stands.
     pub end: UnitEnd,
+    /// What has come of the next datagram.
     pub gathering: Gathering,
 }
 
@@ -82,7 +85,7 @@ impl UnitLine {
         }
     }
 
-    // These bytes come.
+    /// These bytes come.
     fn take_all<K: Sink, U: Medium>(
         &mut self,
         bytes: &[u8],
@@ -110,7 +113,7 @@ impl UnitLine {
         Ok(())
     }
 
-    // A byte comes.
+    /// A byte comes.
     fn take<K: Sink, U: Medium>(
         &mut self,
         byte: u8,
@@ -144,7 +147,7 @@ impl UnitLine {
     }
 }
 
-// Answers a datagram.
+/// Answers a datagram.
 fn hear<K: Sink, U: Medium>(
     end: &mut UnitEnd,
     bytes: &[u8],
@@ -173,7 +176,7 @@ fn hear<K: Sink, U: Medium>(
     }
 }
 
-// Sends an answer back.
+/// Sends an answer back.
 fn send_back<K: Sink>(answer: &Packet, sink: &mut K) -> Result<(), ServeFault>
     ensures ok { OnOk result (Appends (K.held sink.old) (K.held sink.new) (datagram (packet_bytes answer.now))) }
     ensures err { IfErr result (λ fault. (fault ≡ ServeFault.WriteFault)
@@ -188,6 +191,10 @@ fn send_back<K: Sink>(answer: &Packet, sink: &mut K) -> Result<(), ServeFault>
 }
 
 /// Puts a packet into a sink, as a datagram.
+///
+/// # Errors
+///
+/// `Failed` where the sink failed; it has a front of the datagram.
 pub fn put_packet<K: Sink>(packet: &Packet, sink: &mut K) -> Result<(), Failed>
     ensures ok { OnOk result (Appends (K.held sink.old) (K.held sink.new) (datagram (packet_bytes packet.now))) }
     ensures err { OnErr result (AppendsFront (K.held sink.old) (K.held sink.new) (datagram (packet_bytes packet.now))) }

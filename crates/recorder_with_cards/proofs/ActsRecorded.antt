@@ -44,7 +44,8 @@ use Rattle.run_acts.specs.Truths.{truths_within, marked}
 use Rattle.run_acts.specs.Stays.{AllStay}
 use Rattle.run_acts.proofs.AllStay.{all-noted, log-self, same-on, no-cut}
 use Rattle.run_acts.proofs.NotesThen.{select-now, hand-now, refuse-now}
-use Rattle.run_acts.specs.ByHand.{entry_from, session_at, cabin_holding, entered_run, stop_of, stop_by, stopped_in, stop_in, holding}
+use Rattle.run_minutes.specs.Keeping.{session_at}
+use Rattle.run_acts.specs.ByHand.{entry_from, cabin_holding, entered_run, stop_of, stop_by, stopped_in, stop_in, holding}
 use Rattle.run_acts.proofs.ByHand.{holding-slots, holding-alike, cards-same, taken-there}
 use Rattle.run_acts.proofs.HeldStays.{all-holding}
 use Rattle.std.specs.Prelude.{option_map}
@@ -165,7 +166,7 @@ module _ (o : Origin) (done : List TraceSecond) (s : TraceSecond) (speed : ℕ) 
   -- why the session of a card stops it, if it does
   stop-is : (slot : Slot) (minute : ℕ) (why : Option SlotFault) → stop_of slot minute run ≡ why → (card : Card) → card_in (seat_in run.keeper.cabin.slots.seats slot) ≡ Some card → (x : Accepted) → session_of run.keeper.cabin.cards card ≡ Some x → stop_of_session x (minute_on run.next minute) ≡ why
   stop-is slot minute why is card there x some =
-      sym (ap (λ (q : Option Card). stop_in (session_at q run.keeper.cabin.cards) (minute_on run.next minute)) there ∙ ap (λ (q : Option Accepted). stop_in q (minute_on run.next minute)) some) ∙ is
+      sym (ap (λ (q : Option Card). stop_in (session_at run.keeper.cabin.cards q) (minute_on run.next minute)) there ∙ ap (λ (q : Option Accepted). stop_in q (minute_on run.next minute)) some) ∙ is
 
   -- that holds it
   held-answers : (slot : Slot) (pick : Pick) (minute : ℕ) → stop_of slot minute run ≡ None → (card : Card) → card_in (seat_in run.keeper.cabin.slots.seats slot) ≡ Some card
@@ -201,7 +202,7 @@ module _ (o : Origin) (done : List TraceSecond) (s : TraceSecond) (speed : ℕ) 
       let e : HandEntry = entry_from slot pick (minute_on run.next minute) in
       let takes : stop_of slot minute run ≡ None = subst (λ (x : Action). stop_by x run ≡ None) is none.1 in
       passed-by slot pick minute is none.0 (cabin_holding e card cabin) (holding-slots e card cabin) (holding-alike e card cabin) before refl refl (held-answers slot pick minute takes)
-      (all-holding o (marked before.marks.items (truths_within o h.within.b.run.log done s)) s.number (log_of before) (notes_within h.within.b done s (In (length front)) (log_of before)) run.keeper.memory.registration cabin card e d (taken-there (session_at card cabin.cards) (minute_on run.next minute) takes) h.stay)
+      (all-holding o (marked before.marks.items (truths_within o h.within.b.run.log done s)) s.number (log_of before) (notes_within h.within.b done s (In (length front)) (log_of before)) run.keeper.memory.registration cabin card e d (taken-there (session_at cabin.cards card) (minute_on run.next minute) takes) h.stay)
 
   alike-self : AreAlike run.keeper.cabin.cards run.keeper.cabin.cards
   alike-self = cards-same run.keeper.cabin.cards

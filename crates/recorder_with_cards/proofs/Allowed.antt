@@ -12,7 +12,7 @@ use Rattle.run_acts.specs.ByHand.{stopped_in}
 use Rattle.recorder_with_cards.specs.Acting.{put_count, refused_by, IsSelected, IsFine}
 use Rattle.log_model.specs.declared.lines.SlotFault.{SlotFault}
 use Rattle.log_model.specs.declared.lines.SlotFault.TheVariants.{Occupied, Elsewhere}
-use Rattle.log_model.specs.Slots.{Slots, refusal, other_slot, holds}
+use Rattle.log_model.specs.Slots.{refusal, other_slot, holds}
 use Rattle.run_minutes.specs.card_slots.declared.seats.Seat.{Seat}
 use Rattle.run_minutes.specs.card_slots.Calls.{Seats, seat_in, is_card, logged, sitting_of}
 

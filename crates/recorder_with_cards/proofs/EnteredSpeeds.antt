@@ -7,7 +7,7 @@ use Rattle.unit_minutes.specs.Mends.{IsMending}
 use Rattle.unit_minutes.specs.declared.notes.Notes.{Notes}
 use Rattle.run_acts.specs.run_speeds.Speeds.{HasSameSpeeds, LeavesSpeeds}
 use Rattle.run_acts.proofs.run_speeds.Leaving.{leaves-moments, same-before}
-use Rattle.run_acts.proofs.run_events.NoteSpeeds.{same-speeds, speeds-then, event-speeds, noted-speeds, insertion-speeds}
+use Rattle.run_acts.proofs.run_events.NoteSpeeds.{same-speeds, speeds-then, event-speeds, noted-speeds}
 use Rattle.run_insertion.specs.Noted.{AreDone, AreBeingDone, HasNoted, UnitNote, Inserts, BeginsRow, Tells, IsOnUnit, IsComing}
 
 -- ---- the notes of a card that enters

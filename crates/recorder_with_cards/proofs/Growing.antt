@@ -26,12 +26,11 @@ use Rattle.device_calls.specs.safety_model.Safe.{Devices}
 use Rattle.run_acts.specs.unit_notes.declared.unit_event.UnitEvent.{UnitEvent}
 use Rattle.run_outcome.specs.Lines.{Listed, cut_at, with_kept}
 use Rattle.run_outcome.specs.declared.outcome.Outcome.{Outcome}
-use Rattle.run_minutes.specs.declared.keeper.Keeper.{Keeper}
 use Rattle.run_minutes.specs.declared.keeper.Moment.{Moment}
 use Rattle.run_minutes.specs.Keeping.{with_lines, marks_by as fate_marks}
-use Rattle.run_minutes.specs.Minutes.{KeepingState, Round, AreKept, none, more, AreKeptUpTo, present_at, unit_mark, marks_after, told_after}
+use Rattle.run_minutes.specs.Minutes.{KeepingState, Round, AreKept, none, more, AreKeptUpTo, present_at, unit_mark, told_after}
 use Rattle.run_insertion.specs.declared.lines.Entering.{Entering}
-use Rattle.run_insertion.specs.Entering.{Ending, Unfit, Ahead, Fell, Unasked, Unnoted, Seated, Lost, marks_by, finds_by, outcome_by, ending_of, and_mark, and_marks, last_of}
+use Rattle.run_insertion.specs.Entering.{Ending, Unfit, Ahead, Fell, Unasked, Unnoted, Seated, Lost, marks_by, finds_by, ending_of, and_mark, and_marks, last_of}
 use Rattle.run_acts.specs.declared.run.Run.{Run}
 use Rattle.run_acts.specs.Acting.{told_of, IsSettled, IsClosedBehind, IsWithdrawn, now_moment}
 use Rattle.run_acts.specs.Turning as turning
@@ -39,10 +38,10 @@ use Rattle.run_acts.specs.Noting.{GapReach}
 use Rattle.run_acts.specs.Power.{is_lit, off_cut}
 use Rattle.run_acts.specs.Going.{largest_number}
 use Rattle.run_acts.specs.Recording.{log_of}
-use Rattle.run_acts.proofs.RingedLines.{up-to-tells, kept-tells}
+use Rattle.run_acts.proofs.RingedLines.{up-to-tells}
 use Rattle.run_acts.proofs.RingedSecond.{tears-here_}
 use Rattle.recorder_with_cards.specs.Accepting.{IsAccepted, IsInserted}
-use Rattle.recorder_with_cards.specs.Acting.{IsDone, IsCarriedOut, IsActedBy, IsActed, IsItemActed, AreActed, moment_of, cut_where, cut_breaks}
+use Rattle.recorder_with_cards.specs.Acting.{IsDone, IsCarriedOut, IsActedBy, IsActed, IsItemActed, AreActed, moment_of, cut_breaks}
 use Rattle.recorder_with_cards.specs.Moments.{as_first_told, TellsMoreSince}
 use Rattle.recorder_with_cards.specs.Noting.{JudgesThese, JudgesBoth, JudgesThenGap, WakeReach, Unmended, AtDriver, AtCoDriver, NoneBefore, AtGap, AreWakingEvents, EndsWaking, read_run, read_outcome, NotesPowerOn}
 use Rattle.recorder_with_cards.proofs.HereDone.{TellsMoreOf}

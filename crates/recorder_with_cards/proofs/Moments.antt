@@ -2,7 +2,7 @@
 use Rattle.std.proofs.Common.{◌≡◌, ◌∙◌, ◌⊎◌, inl, inr, ⊎_elim, ℕ, zero, suc, ◌+◌, ◌-◌, ◌/◌, ◌%◌, ◌<◌, ◌≤◌, true, false, List, [], ◌∷◌, ◌++◌, All, length, map, filter, take, drop, refl, ap, sym, subst, arith, length-append, append-nil}
 use Rattle.std.specs.List.{AllByRecursion}
 use Rattle.std.proofs.lemmas.Bool.{cases_lt}
-use Rattle.std.proofs.lemmas.List.{take_all, drop_all, take-append-le, drop-append-le, length-map}
+use Rattle.std.proofs.lemmas.List.{take_all, take-append-le, length-map}
 use Rattle.std.proofs.lemmas.List.Elements.{All-weaker}
 use Rattle.trace_model.specs.declared.Card.{Card}
 use Rattle.trace_model.specs.declared.Card.TheVariants.{A, B}
@@ -12,7 +12,6 @@ use Rattle.log_model.specs.run_model.declared.Device.TheVariants.{Unit as Record
 use Rattle.tach_media.specs.Medium.{State, IsCoherent, last_count}
 use Rattle.log_model.specs.declared.lines.Break.{Break}
 use Rattle.log_model.specs.declared.lines.Break.TheVariants.{Cut, Tear}
-use Rattle.log_model.specs.declared.lines.Find.{Find}
 use Rattle.log_model.specs.declared.lines.Mark.{Mark}
 use Rattle.log_model.specs.Log.{RunLog}
 use Rattle.log_model.specs.Slots.{same_card}
@@ -37,7 +36,7 @@ use Rattle.run_acts.proofs.run_course.Caused.{breaks-next}
 use Rattle.run_acts.specs.run_record.Recorded.{Values, IsHeldBy, carried}
 use Rattle.run_acts.specs.declared.run.Run.{Run}
 use Rattle.run_acts.specs.Recording.{log_of, values_of, RunRecorded}
-use Rattle.recorder_with_cards.specs.Moments.{as_first_told, TellsMoreSince, HadBroken, IsMoment, IsNear, HasMoments}
+use Rattle.recorder_with_cards.specs.Moments.{as_first_told, HadBroken, IsMoment, IsNear}
 use Rattle.recorder_with_cards.specs.Carded.{HasBrokenSo, RunMoments}
 use Rattle.recorder_with_cards.proofs.Breakdowns.{rose-low, tears-of}
 use Rattle.recorder_with_cards.proofs.Growing.{Grows, tells-then}

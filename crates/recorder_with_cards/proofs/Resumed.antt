@@ -517,19 +517,6 @@ comes-waking o done s b waits untold run out d w =
     ap (λ (x : Went). x.before.running) (same-course o done s (In 0) waits [] run out d (within-of o done s b waits untold run out d w))
     ∙ subst (λ (x : Beginning). (went x.run.log done).before.running ≡ false) (sym w.waking.began) w.waking.starts
 
-pub codriver-power : (o : Origin) (done : List TraceSecond) (s : TraceSecond) (b : Beginning) (card : Option Card) (old : Run) (before : Outcome) (d : Devices) → RunWaking o done s b (waiting_in CoDriver card) (CoDriver ∷ []) old before d →
-    card_in old.keeper.cabin.slots.seats.codriver ≡ card → IsBare old.keeper.cabin.slots.seats.codriver → (at : Moment) → at ≡ moment_in s 0 → (speed : ℕ) (failed : Bool) (new : Run) (after : Outcome) →
-    IsAnew card CoDriver at speed old new before after → (e : Devices) → HaveTime e → JudgesAnew card CoDriver at failed old new before after d e → failed ≡ false → ComesPower done after
-unfolding codriver-next
-codriver-power o done s b None old before d w is bare at now speed failed new after anew e time judges well =
-    subst (λ (q : Outcome). ComesPower done q) (sym anew.1) (comes-waking o done s b [] (CoDriver ∷ []) old before d w)
-codriver-power o done s b (Some card) old before d w is bare at now speed failed new after anew e time judges well =
-    let waits : List Visit = waiting_in CoDriver (Some card) in
-    let next : RunNext o done s 0 waits [] old before d CoDriver card = codriver-next o done s b card old before d w is bare in
-    comes-waking o done s b [] [] new after e
-    (behind-on o done s b waits (CoDriver ∷ []) old before d w new after e [] [] (subst (λ (f : Bool). JudgedTo f o done s 0 waits [] old new before after d e next.goes) well (judges o done s 0 waits [] now next time))
-    (λ slot there. absurd (omega (arith, there.1))))
-
 -- behind both nobody waits
 pub codriver-on : (o : Origin) (done : List TraceSecond) (s : TraceSecond) (b : Beginning) (card : Option Card) (old : Run) (before : Outcome) (d : Devices) → RunWaking o done s b (waiting_in CoDriver card) (CoDriver ∷ []) old before d →
     card_in old.keeper.cabin.slots.seats.codriver ≡ card → IsBare old.keeper.cabin.slots.seats.codriver → (at : Moment) → at ≡ moment_in s 0 → (speed : ℕ) (failed : Bool) (new : Run) (after : Outcome) →

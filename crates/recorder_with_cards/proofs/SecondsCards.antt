@@ -4,17 +4,17 @@ use Rattle.trace_model.specs.declared.Action.{Action}
 use Rattle.trace_model.specs.Trace.{TraceSecond, driven, dark}
 use Rattle.log_model.specs.declared.lines.Refused.{Refused}
 use Rattle.log_model.specs.Log.{RunLog, In}
-use Rattle.log_model.specs.Course.{Before, Went, has_power, went}
+use Rattle.log_model.specs.Course.{Went, has_power, went}
 use Rattle.device_calls.specs.run_unit_course.Followed.{UnitPower, Lit as IsLit, Due as IsDue, Lost as IsLost}
 use Rattle.device_calls.specs.run_unit_course.Lines.{cut_at}
 use Rattle.run_minutes.specs.unit_memory.declared.memory.UnitFacts.{UnitFacts}
 use Rattle.device_calls.specs.safety_model.Safe.{Devices}
 use Rattle.run_acts.specs.run_course.Moments.{and_break}
-use Rattle.run_acts.specs.run_course.Followed.{Progress, BookFollowsRun, IsSupplied}
+use Rattle.run_acts.specs.run_course.Followed.{Progress, BookFollowsRun}
 use Rattle.run_acts.specs.run_course.Seconds.{GoesOnBy}
 use Rattle.run_acts.proofs.run_course.Logs.{went-refused}
 use Rattle.run_acts.proofs.run_course.Steps.{with-supply}
-use Rattle.run_acts.proofs.run_course.Told.{lost-dark, lit-power}
+use Rattle.run_acts.proofs.run_course.Told.{lost-dark}
 use Rattle.run_outcome.specs.declared.outcome.Outcome.{Outcome}
 use Rattle.run_outcome.specs.Lines.{Listed}
 use Rattle.log_model.specs.declared.lines.Break.{Break}

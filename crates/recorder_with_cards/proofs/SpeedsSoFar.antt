@@ -1,5 +1,5 @@
 -- What a second leaves of detailed speed up to its turn: as it begins, and behind its actions.
-use Rattle.std.proofs.Common.{◌≡◌, ◌∙◌, ◌⊎◌, inl, inr, ⊎_elim, ℕ, ◌+◌, ◌-◌, ◌/◌, ◌%◌, ◌<◌, ◌≤◌, Bool, true, false, cond, Option, Some, None, IfSome, is_some, List, [], ◌∷◌, ◌++◌, length, filter, refl, sym, ap, subst, arith, append-nil, append_assoc}
+use Rattle.std.proofs.Common.{◌≡◌, ◌∙◌, ◌⊎◌, inl, inr, ⊎_elim, ℕ, ◌+◌, ◌-◌, ◌%◌, ◌<◌, ◌≤◌, Bool, true, false, cond, Option, Some, None, IfSome, is_some, List, [], ◌∷◌, ◌++◌, filter, refl, sym, ap, subst, arith, append-nil}
 use Rattle.std.specs.Prelude.{◌&&◌, ◌==◌, not, nat_eq, min, option_to_list}
 use Rattle.std.specs.List.{AllByRecursion, list_any}
 use Rattle.activity_codec.specs.declared.values.Slot.{Slot}
@@ -13,12 +13,11 @@ use Rattle.log_model.specs.declared.lines.Break.{Break}
 use Rattle.log_model.specs.declared.lines.SlotFault.{SlotFault}
 use Rattle.log_model.specs.Causes.{second_of, is_cut, has_failed}
 use Rattle.log_model.specs.Log.{RunLog, cut_in}
-use Rattle.log_model.specs.Slots.{refusal}
 use Rattle.log_model.specs.Course.{Before, has_power, went}
 use Rattle.device_calls.specs.note_model.Done.{has_failed_in}
 use Rattle.device_calls.specs.event_model.Spans.{SpeedSecond, gap_of}
 use Rattle.device_calls.specs.event_model.declared.entries.Span.{Span}
-use Rattle.run_minutes.specs.card_slots.Calls.{logged, seat_in, card_in}
+use Rattle.run_minutes.specs.card_slots.Calls.{seat_in, card_in}
 use Rattle.device_calls.specs.safety_model.Safe.{Devices}
 use Rattle.run_acts.specs.speed_model.declared.block.Block.{Block}
 use Rattle.run_acts.specs.speed_model.Blocks.{blocks_of, blocks_in}
@@ -36,16 +35,13 @@ use Rattle.run_acts.proofs.run_course.Told.{lit-power, comes-power}
 use Rattle.run_outcome.specs.Lines.{Listed}
 use Rattle.run_outcome.specs.declared.outcome.Outcome.{Outcome}
 use Rattle.run_minutes.specs.declared.keeper.Moment.{Moment}
-use Rattle.run_minutes.specs.Keeping.{with_lines}
 use Rattle.run_minutes.specs.run_promise.Origin.{Origin, rule_of, start_at, first_of}
-use Rattle.run_insertion.specs.declared.lines.Entering.{Entering}
 use Rattle.run_acts.proofs.run_note_record.SoFar.{failed-more}
 use Rattle.run_acts.proofs.run_note_record.Bases.{failed-here}
 use Rattle.run_acts.proofs.run_note_record.RingsWaking.{still-failed}
 use Rattle.run_acts.specs.run_record.Recorded.{progress}
 use Rattle.run_acts.specs.run_speeds.Speeds.{LeavesSpeeds}
-use Rattle.run_acts.specs.run_speeds.Spans.{speed_spans, blocks_by, last_speeds, speeds_before}
-use Rattle.run_acts.proofs.run_speeds.Leaving.{leaves-then}
+use Rattle.run_acts.specs.run_speeds.Spans.{speed_spans, last_speeds, speeds_before}
 use Rattle.run_acts.proofs.run_speeds.Blocks.{carries-unsure}
 use Rattle.run_acts.proofs.run_speeds.Spans.{grown, before-them, grown-blocks, no-block, one-block, as-speed, speeds-lit, IsAlike, alike-power, SameCut, same-power, cuts-before}
 use Rattle.run_acts.specs.run_events.declared.watch.Watch.{Watch}
@@ -55,15 +51,14 @@ use Rattle.run_acts.specs.declared.run.Power.TheVariants.{Lit, Due, Lost}
 use Rattle.run_acts.specs.Acting.{IsNotedIn, noted_run, now_moment}
 use Rattle.run_acts.specs.Noting.{GapReach, NoGap, UnitFailed, DriverFell, BothSlots, IsGapNoted, AreGapEvents}
 use Rattle.run_acts.specs.Going.{largest_number}
-use Rattle.run_acts.specs.Power.{is_lit, has_power as has_by, over_by, minute_over, cut_run}
+use Rattle.run_acts.specs.Power.{is_lit, has_power as has_by, over_by, minute_over}
 use Rattle.run_acts.specs.Recording.{log_of, values_of, Supplies, InSecondBy, RunRecorded}
 use Rattle.run_acts.specs.Speeds.{HasBlocks, SpeedsBehind, SpeedsInBy}
 use Rattle.run_acts.proofs.SpeedLogs.{FailsMore, unsure-here, blocks-same, blocks-more}
 use Rattle.run_acts.specs.ByHand.{stopped_in}
-use Rattle.recorder_with_cards.specs.Accepting.{IsAccepted, IsEnteringNow}
 use Rattle.recorder_with_cards.specs.Acting.{moment_of, cut_where, cut_breaks, IsCarriedOut, IsActedBy, IsActed, IsItemActed, AreActed}
 use Rattle.recorder_with_cards.specs.Carded.{InSecondCardedBy}
-use Rattle.recorder_with_cards.specs.Noting.{JudgesThese, JudgesDriver, JudgesBoth, JudgesThenGap, HasBegunSpan, WakeReach, Unmended, AtDriver, AtCoDriver, NoneBefore, AtGap, AreWakingEvents, EndsWaking, read_run, read_outcome, NotesPowerOn}
+use Rattle.recorder_with_cards.specs.Noting.{JudgesThese, JudgesBoth, JudgesThenGap, HasBegunSpan, WakeReach, Unmended, AtDriver, AtCoDriver, NoneBefore, AtGap, AreWakingEvents, EndsWaking, read_run, read_outcome, NotesPowerOn}
 use Rattle.recorder_with_cards.proofs.GapShown.{gap-lines}
 use Rattle.recorder_with_cards.proofs.HereDone.{TellsMoreOf, of-then, accepted-of, done-of}
 use Rattle.recorder_with_cards.proofs.Read.{may-of}

@@ -10,7 +10,6 @@ use Rattle.log_model.specs.Course.{Went, went}
 use Rattle.log_model.specs.Spans.{AreInOrder}
 use Rattle.log_model.proofs.Spanning.{order-parts}
 use Rattle.log_model.specs.ByHand.{by_slots}
-use Rattle.device_calls.specs.event_model.Spans.{SpeedSecond}
 use Rattle.run_acts.specs.speed_model.Blocks.{blocks_in}
 use Rattle.device_calls.specs.safety_model.Safe.{Devices}
 use Rattle.device_calls.specs.run_unit_course.Lines.{cut_at}
@@ -24,7 +23,7 @@ use Rattle.run_outcome.specs.declared.outcome.Outcome.{Outcome}
 use Rattle.run_minutes.specs.Keeping.{with_lines}
 use Rattle.run_minutes.proofs.Fates.{no-lines}
 use Rattle.run_acts.specs.run_record.Recorded.{progress}
-use Rattle.run_acts.specs.run_speeds.Spans.{speeds_of, speed_spans, blocks_by}
+use Rattle.run_acts.specs.run_speeds.Spans.{speeds_of, speed_spans}
 use Rattle.run_acts.proofs.run_speeds.Leaving.{leaves-none}
 use Rattle.run_acts.proofs.run_speeds.Spans.{speeds-dark, last-same, SameCut, cuts-before}
 use Rattle.run_acts.specs.declared.run.Run.{Run}
@@ -35,7 +34,7 @@ use Rattle.run_acts.specs.Recording.{log_of, values_of, Supplies, RunRecorded}
 use Rattle.run_acts.specs.Speeds.{HasBlocks, SpeedsBehind}
 use Rattle.run_acts.proofs.SpeedLogs.{blocks-same}
 use Rattle.run_acts.proofs.SpeedsTurn.{one-dark, many-dark}
-use Rattle.recorder_with_cards.proofs.SecondsRecorded.{lost-away, lost-supply}
+use Rattle.recorder_with_cards.proofs.SecondsRecorded.{lost-supply}
 use Rattle.recorder_with_cards.proofs.SlotLines.{refused_dark, log-dark}
 use Rattle.recorder_with_cards.proofs.SpeedsSoFar.{SaysMore, says-lines}
 

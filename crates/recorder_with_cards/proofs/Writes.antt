@@ -172,7 +172,3 @@ writes-few start items failed =
     let on = power_ons-few start items failed in
     let turns = turns-few start items in
     let acts = most-actions items in (omega (arith, on, turns, acts), omega (arith, on, turns, acts))
-
--- so it is no more than with a power-on at each turn
-pub writes-by-turns : (start : ℕ) (items : List Item) (failed : ℕ) → (unit_writes start items failed ≤ 187 * turns_of start items + 102 * length (actions_in items)) × (card_writes start items failed ≤ 2446 * turns_of start items + 1366 * length (actions_in items))
-writes-by-turns start items failed = let on = power_ons-few start items failed in (omega (arith, on), omega (arith, on))

@@ -21,19 +21,22 @@ use Rattle.run_acts.specs.declared.run.Run.{Run}
 use Rattle.run_acts.specs.Power.{with_cabin}
 use Rattle.run_acts.specs.Acting.{IsSettled}
 
--- of two things, of which the first is a card's, that of card a, and that of card b
+-- of the states by which two cards answer, the first of them this card's, that of card a
 abbrev pub chip_a_of : Card → CardState → CardState → CardState
 chip_a_of A mine others = mine
 chip_a_of B mine others = others
 
+-- and that of card b
 abbrev pub chip_b_of : Card → CardState → CardState → CardState
 chip_b_of A mine others = others
 chip_b_of B mine others = mine
 
+-- the same of two states: that of card a
 abbrev pub a_of : Card → State → State → State
 a_of A mine others = mine
 a_of B mine others = others
 
+-- and that of card b
 abbrev pub b_of : Card → State → State → State
 b_of A mine others = others
 b_of B mine others = mine

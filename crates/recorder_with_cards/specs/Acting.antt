@@ -9,9 +9,7 @@ use Rattle.minute_rules.specs.Kept.{CountsSpan}
 use Rattle.log_model.specs.declared.lines.Refused.{Refused}
 use Rattle.log_model.specs.declared.lines.SlotFault.{SlotFault}
 use Rattle.log_model.specs.declared.lines.SlotFault.TheVariants.{NoPower}
-use Rattle.log_model.specs.Slots.{refusal}
-use Rattle.run_minutes.specs.card_slots.Calls.{Seats, logged, seat_in, card_in}
-use Rattle.run_outcome.specs.Lines.{cut_at}
+use Rattle.run_minutes.specs.card_slots.Calls.{seat_in, card_in}
 use Rattle.run_outcome.specs.declared.outcome.Outcome.{Outcome}
 use Rattle.run_minutes.specs.declared.keeper.Moment.{Moment}
 use Rattle.run_minutes.specs.Keeping.{with_lines}
@@ -20,6 +18,7 @@ use Rattle.run_acts.specs.declared.run.Run.{Run}
 use Rattle.run_acts.specs.Power.{is_lit, cut_run}
 use Rattle.run_acts.specs.Going.{largest_number}
 use Rattle.run_acts.specs.Acting.{IsWithdrawn, IsPlaced, pulled_run, pulled_breaks}
+pub use Rattle.run_acts.specs.Turning.{cut_breaks}
 use Rattle.recorder_with_cards.specs.Accepting.{IsInserted}
 
 -- a card is put into a slot
@@ -94,15 +93,12 @@ IsDone (Place slot ending country region) at speed failed old new before after =
 IsDone (Manual slot pick minute) at speed failed old new before after = (failed ≡ false)
     × (new ≡ entered_run slot pick minute old) × (after ≡ before)
 
--- the run and the outcome behind an action: where the unit failed in it, power was lost in its second
+-- the run behind an action: where the unit failed in it, power was lost in its second
 abbrev pub cut_where : (failed : Bool) → Run → Run
 cut_where false run = run
 cut_where true run = cut_run run.next run
 
-abbrev pub cut_breaks : (failed : Bool) → (second begun : ℕ) → Outcome → Outcome
-cut_breaks false second begun o = o
-cut_breaks true second begun o = record o { breaks = with_lines (cut_at second true begun ∷ []) o.breaks }
-
+-- AN ACTION IS CARRIED OUT: it did what it does; where the unit failed in it power is lost, and told so.
 pub record IsCarriedOut (action : Action) (begun speed : ℕ) (old new : Run) (before after : Outcome) : Type 0 where
   pub failed : Bool
   pub between : Run

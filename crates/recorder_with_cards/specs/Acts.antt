@@ -8,10 +8,10 @@ use Rattle.log_model.specs.Slots.{other_slot}
 use Rattle.log_model.specs.declared.lines.Break.{Break}
 use Rattle.run_acts.specs.ByHand.{stopped_in}
 use Rattle.run_acts.specs.Evented.{EventsAction}
-use Rattle.run_acts.specs.Going.{IsFoundLater, largest_number, end_of_seconds}
+use Rattle.run_acts.specs.Going.{IsFoundLater, IsInsideSecond, largest_number, end_of_seconds}
 use Rattle.run_acts.specs.Power.{has_power, is_lit}
 use Rattle.run_acts.specs.Recording.{RecordsAction, log_of}
-use Rattle.run_acts.specs.Room.{bare_count, bare_seats, HasRoom, falls_of}
+use Rattle.run_acts.specs.Room.{bare_count, bare_seats, HasRoom, HasRoomWithin, falls_of}
 use Rattle.run_acts.specs.RunCards.{CardsAction}
 use Rattle.run_acts.specs.Stood.{StandsAction}
 use Rattle.run_acts.specs.RunRinged.{RingsAction}
@@ -29,6 +29,7 @@ use Rattle.run_outcome.specs.declared.outcome.TheConstants.{MOST_OWED}
 use Rattle.run_acts.specs.run_speeds.Speeds.{LeavesSpeeds}
 use Rattle.device_calls.specs.safety_model.Safe.{Devices}
 use Rattle.tach_media.specs.Medium.{State}
+use Rattle.tach_media.specs.card_layout.declared.command.CardState.{CardState}
 use Rattle.tach_media.specs.declared.fault.Failed.{Failed}
 use Rattle.trace_model.specs.declared.Action.{Action}
 use Rattle.trace_model.specs.declared.Action.TheVariants.{Insert}
@@ -54,6 +55,7 @@ use Rattle.recorder_with_cards.specs.Writes.{WritesFor, WritesIn, WritesBetween,
 use Rattle.unit_minutes.specs.declared.notes.Notes.{Notes}
 use Rattle.minute_rules.specs.minute_model.declared.Rule.{Rule}
 use Rattle.run_opening.specs.Units.{IsLoaded}
+use Rattle.unit_minutes.specs.unit_model.Image.{IsUnit}
 use Rattle.unit_minutes.specs.unit_model.Versions.{rule_of}
 
 -- A CARD THAT SITS IN A SLOT WAS JUDGED: what became of it, and nothing else has changed
@@ -65,17 +67,18 @@ pub record AcceptsIn (slot : Slot) (card : Card) (at : Moment) (speed : ℕ) (ol
   pub beside : seat_in new.keeper.cabin.slots.seats (other_slot slot)
       ≡ seat_in old.keeper.cabin.slots.seats (other_slot slot)
 
--- WHAT A RUN PROMISES goes on with it, where there is room for what the card is owed
+-- THERE IS ROOM for the marks of what so many cards are owed
+abbrev pub HasRoomForOwed : (cards : ℕ) → Outcome → Type 0
+HasRoomForOwed cards o = length o.marks.items + MOST_OWED * cards ≤ o.marks.room
+
+-- WHAT A RUN PROMISES goes on as the card is judged: its record, the events of the unit, its rings, the events of the
+-- cards
 pub record PromisesAccepting (slot : Slot) (card : Card) (at : Moment) (speed : ℕ) (failed : Bool) (old new : Run)
     (before after : Outcome) (d e : Devices) : Type 0 where
-  pub recorded : length before.marks.items + MOST_OWED ≤ before.marks.room
-      → JudgesSo slot card at failed old new before after d e
-  pub evented : length before.marks.items + MOST_OWED ≤ before.marks.room
-      → EventsJudged slot card at speed failed old new before after d e
-  pub ringed : length before.marks.items + MOST_OWED ≤ before.marks.room
-      → RingsJudged slot card at failed old new before after d e
-  pub cards : length before.marks.items + MOST_OWED ≤ before.marks.room
-      → CardsJudged slot card at speed failed old before after d e
+  pub recorded : JudgesSo slot card at failed old new before after d e
+  pub evented : EventsJudged slot card at speed failed old new before after d e
+  pub ringed : RingsJudged slot card at failed old new before after d e
+  pub cards : CardsJudged slot card at speed failed old before after d e
 
 -- WHAT THAT LEAVES ON THE DEVICES: entries in the rings of the unit, and what is noted
 pub record LeavesAccepted (slot : Slot) (card : Card) (at : Moment) (speed : ℕ) (failed : Bool) (old new : Run)
@@ -98,23 +101,19 @@ pub record AcceptsAnew (slot : Slot) (at : Moment) (speed : ℕ) (old new : Run)
   pub beside : seat_in new.keeper.cabin.slots.seats (other_slot slot)
       ≡ seat_in old.keeper.cabin.slots.seats (other_slot slot)
 
--- what a run promises goes on with it
+-- WHAT A RUN PROMISES goes on as the card of a slot, if there is one, is judged anew: its record, the events of the
+-- unit, its rings, the events of the cards
 pub record PromisesAnew (slot : Slot) (at : Moment) (speed : ℕ) (failed : Bool) (old new : Run) (before after : Outcome)
     (d e : Devices) : Type 0 where
-  pub recorded : length before.marks.items + MOST_OWED * bare_count (seat_in old.keeper.cabin.slots.seats slot)
-      ≤ before.marks.room → JudgesAnew (card_in (seat_in old.keeper.cabin.slots.seats slot)) slot at failed old new
-      before after d e
-  pub evented : length before.marks.items + MOST_OWED * bare_count (seat_in old.keeper.cabin.slots.seats slot)
-      ≤ before.marks.room → EventsAnew (card_in (seat_in old.keeper.cabin.slots.seats slot)) slot at speed failed old
-      new before after d e
-  pub ringed : length before.marks.items + MOST_OWED * bare_count (seat_in old.keeper.cabin.slots.seats slot)
-      ≤ before.marks.room → RingsJudgedAnew (card_in (seat_in old.keeper.cabin.slots.seats slot)) slot at failed old new
-      before after d e
-  pub cards : length before.marks.items + MOST_OWED * bare_count (seat_in old.keeper.cabin.slots.seats slot)
-      ≤ before.marks.room → CardsAnew (card_in (seat_in old.keeper.cabin.slots.seats slot)) slot at speed failed old
-      before after d e
+  pub recorded : JudgesAnew (card_in (seat_in old.keeper.cabin.slots.seats slot)) slot at failed old new before after d
+      e
+  pub evented : EventsAnew (card_in (seat_in old.keeper.cabin.slots.seats slot)) slot at speed failed old new before
+      after d e
+  pub ringed : RingsJudgedAnew (card_in (seat_in old.keeper.cabin.slots.seats slot)) slot at failed old new before after
+      d e
+  pub cards : CardsAnew (card_in (seat_in old.keeper.cabin.slots.seats slot)) slot at speed failed old before after d e
 
--- and this is left
+-- WHAT JUDGING IT ANEW LEAVES ON THE DEVICES: entries in the rings of the unit, and what is noted
 pub record LeavesAnew (slot : Slot) (at : Moment) (speed : ℕ) (failed : Bool) (old new : Run) (before after : Outcome)
     (d e : Devices) : Type 0 where
   pub rings : RingsAnew (card_in (seat_in old.keeper.cabin.slots.seats slot)) slot at speed failed old new before after
@@ -129,21 +128,21 @@ pub record Inserts (slot : Slot) (card : Card) (at : Moment) (speed : ℕ) (fail
   pub run : new ≡ record old { minutes = new.minutes; keeper = new.keeper; noted = new.noted }
   pub refused : after.refused ≡ before.refused
 
--- what a run promises goes on with it
+-- THERE IS ROOM for the marks of the minutes that wait, and of what a card that is put in is owed
+abbrev pub HasRoomToInsert : Run → Outcome → Type 0
+HasRoomToInsert run o = length o.marks.items + 3 * run.minutes.owing + MOST_OWED ≤ o.marks.room
+
+-- WHAT A RUN PROMISES goes on as a card is put in: its record, the events of the unit, its rings, the events of the
+-- cards, and what stood on the cards
 pub record PromisesInsertion (slot : Slot) (card : Card) (at : Moment) (speed : ℕ) (failed : Bool) (old new : Run)
     (before after : Outcome) (d e : Devices) : Type 0 where
-  pub recorded : at.late ≡ false → length before.marks.items + 3 * old.minutes.owing + MOST_OWED ≤ before.marks.room
-      → RecordsAction (Insert slot card) at.begun speed failed old new before after d e
-  pub evented : at.late ≡ false → length before.marks.items + 3 * old.minutes.owing + MOST_OWED ≤ before.marks.room
-      → EventsAction (Insert slot card) at.begun speed failed old new before after d e
-  pub ringed : at.late ≡ false → length before.marks.items + 3 * old.minutes.owing + MOST_OWED ≤ before.marks.room
-      → RingsAction (Insert slot card) at.begun speed failed old new before after d e
-  pub cards : at.late ≡ false → length before.marks.items + 3 * old.minutes.owing + MOST_OWED ≤ before.marks.room
-      → CardsAction (Insert slot card) at.begun speed failed old before after d e
-  pub stands : at.late ≡ false → length before.marks.items + 3 * old.minutes.owing + MOST_OWED ≤ before.marks.room
-      → StandsAction (Insert slot card) at.begun speed old before d e
+  pub recorded : RecordsAction (Insert slot card) at.begun speed failed old new before after d e
+  pub evented : EventsAction (Insert slot card) at.begun speed failed old new before after d e
+  pub ringed : RingsAction (Insert slot card) at.begun speed failed old new before after d e
+  pub cards : CardsAction (Insert slot card) at.begun speed failed old before after d e
+  pub stands : StandsAction (Insert slot card) at.begun speed old before d e
 
--- and this is left
+-- WHAT AN INSERTION LEAVES ON THE DEVICES: entries in the rings of a unit that tells its image, and what is noted
 pub record LeavesInserted (slot : Slot) (card : Card) (at : Moment) (speed : ℕ) (failed : Bool) (old new : Run)
     (before after : Outcome) (d e : Devices) : Type 0 where
   pub rings : is_some d.unit.image ≡ true → RingsInserting slot card at speed failed old new before after d.unit e.unit
@@ -158,7 +157,8 @@ pub record CarriesOut (action : Action) (at : Moment) (speed : ℕ) (failed : Bo
   pub stays : StaysIn old new
   pub refused : after.refused ≡ before.refused
 
--- what a run promises goes on with it
+-- WHAT A RUN PROMISES goes on with an action: its record, the events of the unit, its rings, the events of the cards,
+-- and what stood on the cards
 pub record PromisesAction (action : Action) (begun speed : ℕ) (failed : Bool) (old new : Run) (before after : Outcome)
     (d e : Devices) : Type 0 where
   pub recorded : RecordsAction action begun speed failed old new before after d e
@@ -167,7 +167,7 @@ pub record PromisesAction (action : Action) (begun speed : ℕ) (failed : Bool) 
   pub cards : CardsAction action begun speed failed old before after d e
   pub stands : StandsAction action begun speed old before d e
 
--- and this is left
+-- WHAT AN ACTION LEAVES ON THE DEVICES: what is noted, and entries in the rings of a unit that tells its image
 pub record LeavesDone (action : Action) (at : Moment) (speed : ℕ) (failed : Bool) (old new : Run)
     (before after : Outcome) (d e : Devices) : Type 0 where
   pub events : NotesDone action at speed failed old new before after d e
@@ -205,6 +205,7 @@ pub record ActsSo (has_power : Bool) (action : Action) (begun speed : ℕ) (old 
       (refusal_lines (refused_by has_power (is_lit old.power) old speed action) old.next begun) before.refused
   pub none : (refused_by has_power (is_lit old.power) old speed action ≡ None → ⊥) → new ≡ old
   pub lost : has_power ≡ true → is_lit old.power ≡ false → (new ≡ old) × (after ≡ before)
+  pub dark : is_lit old.power ≡ false → is_lit new.power ≡ false
   pub selected : is_lit old.power ≡ true → IsSelected action old new
   pub next : new.next ≡ old.next
   pub unfound : new.unfound ≡ old.unfound
@@ -213,6 +214,7 @@ pub record ActsSo (has_power : Bool) (action : Action) (begun speed : ℕ) (old 
 pub record ActsItem (item : Item) (has_power : Bool) (begun speed : ℕ) (old new : Run) (before after : Outcome) : Type
     0 where
   pub done : IsItemActed item has_power (is_lit old.power) begun speed old new before after
+  pub dark : has_power ≡ false → is_lit new.power ≡ false
   pub next : new.next ≡ old.next
   pub unfound : new.unfound ≡ old.unfound
 
@@ -225,19 +227,15 @@ pub record Resumes (result : Result (Unit {0}) Failed) (old new : Run) (before a
   pub refused : after.refused ≡ before.refused
   pub uncut : failed_cuts after.breaks.items ≡ failed_cuts before.breaks.items
 
--- WHAT A RUN PROMISES goes on with it, where there is room for what the cards are owed
+-- WHAT A RUN PROMISES goes on as the unit is mended and the cards are judged anew: its record, the events of the unit,
+-- its rings, the events of the cards, and what stood on the cards
 pub record PromisesResuming (kept speed : ℕ) (failed : Bool) (old new : Run) (before after : Outcome)
     (d e : Devices) : Type 0 where
-  pub recorded : length before.marks.items + MOST_OWED * bare_seats old.keeper.cabin.slots.seats ≤ before.marks.room
-      → ResumesSo kept failed old new before after d e
-  pub evented : length before.marks.items + MOST_OWED * bare_seats old.keeper.cabin.slots.seats ≤ before.marks.room
-      → EventsResuming kept speed failed old new before after d e
-  pub ringed : length before.marks.items + MOST_OWED * bare_seats old.keeper.cabin.slots.seats ≤ before.marks.room
-      → RingsResuming kept failed old new before after d e
-  pub cards : length before.marks.items + MOST_OWED * bare_seats old.keeper.cabin.slots.seats ≤ before.marks.room
-      → CardsResuming kept speed failed old new before after d e
-  pub stands : length before.marks.items + MOST_OWED * bare_seats old.keeper.cabin.slots.seats ≤ before.marks.room
-      → StandsResuming kept speed failed old new before after d e
+  pub recorded : ResumesSo kept failed old new before after d e
+  pub evented : EventsResuming kept speed failed old new before after d e
+  pub ringed : RingsResuming kept failed old new before after d e
+  pub cards : CardsResuming kept speed failed old new before after d e
+  pub stands : StandsResuming kept speed failed old new before after d e
 
 -- POWER IS BACK, or the unit is refused: it is the same second, and the run is awake
 pub record IsWoken (result : Result (Unit {0}) RunFault) (old new : Run) (before after : Outcome) : Type 0 where
@@ -247,17 +245,14 @@ pub record IsWoken (result : Result (Unit {0}) RunFault) (old new : Run) (before
   pub unfound : OnOk result (new.unfound ≤ length after.breaks.items)
   pub refused : after.refused ≡ before.refused
 
--- what a run promises goes on with it
+-- WHAT A RUN PROMISES goes on as power comes back: its record, the events of the unit, its rings, the events of the
+-- cards
 pub record PromisesWaking (result : Result (Unit {0}) RunFault) (speed : ℕ) (old new : Run) (before after : Outcome)
     (d e : Devices) : Type 0 where
-  pub recorded : length before.marks.items + MOST_OWED * bare_seats old.keeper.cabin.slots.seats ≤ before.marks.room
-      → WakesSo result speed old new before after d e
-  pub evented : length before.marks.items + MOST_OWED * bare_seats old.keeper.cabin.slots.seats ≤ before.marks.room
-      → EventsWaking result speed old new before after d e
-  pub ringed : length before.marks.items + MOST_OWED * bare_seats old.keeper.cabin.slots.seats ≤ before.marks.room
-      → RingsWaking result speed old new before after d e
-  pub cards : length before.marks.items + MOST_OWED * bare_seats old.keeper.cabin.slots.seats ≤ before.marks.room
-      → CardsPowering result speed old new before after d e
+  pub recorded : WakesSo result speed old new before after d e
+  pub evented : EventsWaking result speed old new before after d e
+  pub ringed : RingsWaking result speed old new before after d e
+  pub cards : CardsPowering result speed old new before after d e
 
 -- ALL GOES ON: no clock and no count of a device falls, the unit broke down where the power is lost and nowhere else,
 -- and no card without the line of a tear; and so many writes at most were begun
@@ -275,7 +270,8 @@ pub record BeginsSecond (result : Result Bool RunFault) (old new : Run) (before 
   pub unfound : OnOk result (new.unfound ≤ length after.breaks.items)
   pub refused : after.refused ≡ before.refused
 
--- what a run promises goes on with it, and what is noted where power is back
+-- WHAT A RUN PROMISES goes on as a second begins: its record with the rings, the events of the cards, and what is noted
+-- where power is back
 pub record PromisesSecond (result : Result Bool RunFault) (speed : ℕ) (old new : Run) (before after : Outcome)
     (d e : Devices) : Type 0 where
   pub ringed : BeginsRinged result speed old new before after d e
@@ -290,13 +286,12 @@ pub record ActsAll (has_power : Bool) (speed : ℕ) (items : List Item) (old new
   pub next : new.next ≡ old.next
   pub unfound : new.unfound ≡ old.unfound
 
--- What a run promises goes on with them, in a second with power whose items are all actions
-pub record PromisesAll (has_power : Bool) (speed count : ℕ) (items : List Item) (old new : Run) (before after : Outcome)
-    (d e : Devices) : Type 0 where
-  pub ringed : has_power ≡ true → length (actions_in items) ≡ count → count ≤ largest_number
-      → RingsActions (actions_in items) count speed old new before after d e
-  pub cards : has_power ≡ true → length (actions_in items) ≡ count → count ≤ largest_number
-      → CardsActions (actions_in items) count speed old new before after d e
+-- WHAT A RUN PROMISES goes on over the actions of a second with power whose items are all actions
+abbrev pub PromisesAll : (has_power : Bool) → (speed count : ℕ) → List Item → (old new : Run) → (before after : Outcome)
+    → (d e : Devices) → Type 0
+PromisesAll has_power speed count items old new before after d e = has_power ≡ true
+    → length (actions_in items) ≡ count → count ≤ largest_number
+    → PromisesActions (actions_in items) count speed old new before after d e
 
 -- A CARD THAT SITS IN A SLOT WAS JUDGED as it enters: what became of it, and nothing else has changed
 pub record AcceptsHere (entering : Enters) (old new : Run) (before after : Outcome) : Type 0 where
@@ -306,19 +301,18 @@ pub record AcceptsHere (entering : Enters) (old new : Run) (before after : Outco
   pub beside : seat_in new.keeper.cabin.slots.seats (other_slot entering.slot)
       ≡ seat_in old.keeper.cabin.slots.seats (other_slot entering.slot)
 
--- what a run promises goes on with it
+-- WHAT A RUN PROMISES goes on as the card that enters is judged: its record, where it enters with the odometer of now,
+-- the events of the unit, its rings, the events of the cards
 pub record PromisesHere (entering : Enters) (failed : Bool) (old new : Run) (before after : Outcome)
     (d e : Devices) : Type 0 where
-  pub recorded : length before.marks.items + MOST_OWED ≤ before.marks.room → IsOdometerNow old entering.odometer.0
+  pub recorded : IsOdometerNow old entering.odometer.0
       → JudgesSo entering.slot entering.which entering.at failed old new before after d e
-  pub evented : length before.marks.items + MOST_OWED ≤ before.marks.room
-      → EventsJudged entering.slot entering.which entering.at entering.speed failed old new before after d e
-  pub ringed : length before.marks.items + MOST_OWED ≤ before.marks.room
-      → RingsEntering entering.slot entering.which entering.at entering.odometer.0 failed old new before after d e
-  pub cards : length before.marks.items + MOST_OWED ≤ before.marks.room
-      → CardsJudged entering.slot entering.which entering.at entering.speed failed old before after d e
+  pub evented : EventsJudged entering.slot entering.which entering.at entering.speed failed old new before after d e
+  pub ringed : RingsEntering entering.slot entering.which entering.at entering.odometer.0 failed old new before after d
+      e
+  pub cards : CardsJudged entering.slot entering.which entering.at entering.speed failed old before after d e
 
--- and this is left
+-- WHAT JUDGING IT LEAVES ON THE DEVICES: entries in the rings of the unit, and what is noted
 pub record LeavesHere (entering : Enters) (failed : Bool) (old new : Run) (before after : Outcome) (U V : State)
     (d e : Devices) : Type 0 where
   pub rings : IsJudgedRinging entering failed old new before after U V
@@ -342,11 +336,11 @@ pub record ItemGoes (result : Result (Unit {0}) RunFault) (turns actions off_lin
   pub broke : BreaksDown before.breaks.items after.breaks.items d.unit e.unit
   pub most : WritesBetween turns actions (powered old before) (off_lines + powered_by result new after) d e
 
--- What a run promises goes on with these actions, in a second with power
-pub record PromisesWithPower (has_power : Bool) (actions : List Action) (begun speed : ℕ) (old new : Run)
-    (before after : Outcome) (d e : Devices) : Type 0 where
-  pub ringed : has_power ≡ true → RingsActions actions begun speed old new before after d e
-  pub cards : has_power ≡ true → CardsActions actions begun speed old new before after d e
+-- WHAT A RUN PROMISES goes on with these actions in a second with power
+abbrev pub PromisesWithPower : (has_power : Bool) → List Action → (begun speed : ℕ) → (old new : Run)
+    → (before after : Outcome) → (d e : Devices) → Type 0
+PromisesWithPower has_power actions begun speed old new before after d e = has_power ≡ true
+    → PromisesActions actions begun speed old new before after d e
 
 -- What a run promises goes on over so many seconds more without actions, behind one at their speed
 pub record PromisesMore (result : Result (Unit {0}) RunFault) (seconds speed : ℕ) (old new : Run)
@@ -422,6 +416,39 @@ pub record MayGoOn (seconds offs insertions actions : ℕ) (run : Run) (o : Outc
   pub small : run.next + seconds ≤ end_of_seconds
   pub room : HasRoom run o seconds offs insertions actions
   pub unfound : run.unfound ≤ length o.breaks.items
+
+-- ACTIONS MAY BE DONE in a second, so many of which put a card in: the run is inside it, it has no power where the
+-- second has none at its beginning, and there is room for them
+pub record MayAct (has_power : Bool) (insertions actions : ℕ) (run : Run) (o : Outcome) (unit : State)
+    (chip_a chip_b : CardState) (a b : State) : Type 0 where
+  pub going : IsInsideSecond run unit chip_a chip_b a b
+  pub dark : has_power ≡ false → is_lit run.power ≡ false
+  pub room : HasRoomWithin run o 1 0 insertions actions
+
+-- AN ACTION MAY BE DONE WITH POWER, which puts in so many cards: the run has it inside the second, and there is room
+pub record MayActLit (insertions : ℕ) (run : Run) (o : Outcome) (unit : State) (chip_a chip_b : CardState)
+    (a b : State) : Type 0 where
+  pub lit : run.power ≡ Lit
+  pub going : IsInsideSecond run unit chip_a chip_b a b
+  pub room : HasRoomWithin run o 1 0 insertions 1
+
+-- HOW A RUN STANDS BEHIND ACTIONS of a second, so many of which put a card in: it is inside it still; and where there
+-- was room for these and some more, there is for those
+pub record StandsActed (insertions actions : ℕ) (old new : Run) (before after : Outcome) (unit : State)
+    (chip_a chip_b : CardState) (a b : State) : Type 0 where
+  pub going : IsInsideSecond new unit chip_a chip_b a b
+  pub room : (left offs puts others : ℕ)
+      → HasRoomWithin old before (1 + left) offs (insertions + puts) (actions + others)
+      → HasRoomWithin new after (1 + left) offs puts others
+
+-- HOW A RUN STANDS AS A SECOND HAS BEGUN: the unit is a unit still; the run is inside the second, unless a fault is
+-- answered; and where there was room for it and some more, there is
+pub record StandsBegun (result : Result Bool RunFault) (old new : Run) (before after : Outcome) (unit : State)
+    (chip_a chip_b : CardState) (a b : State) : Type 0 where
+  pub is_unit : IsUnit unit
+  pub going : OnOk result (IsInsideSecond new unit chip_a chip_b a b)
+  pub room : (left offs insertions actions : ℕ) → HasRoom old before (1 + left) offs insertions actions
+      → OnOk result (HasRoomWithin new after (1 + left) offs insertions actions)
 
 -- THESE ARE AMONG THE ITEMS, from one index to another
 pub record AreAmong (items : List Item) (from to : ℕ) : Type 0 where

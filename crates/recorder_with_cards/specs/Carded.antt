@@ -75,21 +75,25 @@ abbrev pub InSecondCardedBy : (lit : Bool) → Origin → List TraceSecond → T
 InSecondCardedBy true o done s n run out d = WithinCarded o done s n run out d
 InSecondCardedBy false o done s n run out d = CutCarded o done s run out d
 
+-- with power, or cut, as the run has it
 abbrev pub InSecondCarded : Origin → List TraceSecond → TraceSecond → (n : ℕ) → Run → Outcome → Devices → Type 0
 InSecondCarded o done s n run out d = InSecondCardedBy (is_lit run.power) o done s n run out d
 
 -- ---- as the functions of the loop say it
 
+-- a second begins
 abbrev pub BeginsCarded : Result Bool RunFault → (speed : ℕ) → (old new : Run) → (before after : Outcome)
     → (d e : Devices) → Type 0
 BeginsCarded result speed old new before after d e = BeginsBy RunCarded InSecondCarded result speed old new before after
     d e
 
+-- actions of a second are carried out
 abbrev pub CardsActions : List Action → (begun speed : ℕ) → (old new : Run) → (before after : Outcome) → (d e : Devices)
     → Type 0
 CardsActions actions begun speed old new before after d e = ActsBy InSecondCarded actions begun speed old new before
     after d e
 
+-- seconds at one speed are over
 abbrev pub CardsSeconds : Result (Unit {0}) RunFault → (seconds speed : ℕ) → List Action → (old new : Run)
     → (before after : Outcome) → (d e : Devices) → Type 0
 CardsSeconds result seconds speed actions old new before after d e = SecondsBy RunTimely result seconds speed actions
@@ -102,6 +106,7 @@ CardsMore result seconds speed old new before after d e = (o : Origin) (done : L
     → RunTimely o done old before d → HaveTime e
     → HasRunBy RunTimely result o (done ++ driven seconds old.next speed []) new after e
 
+-- an item is over
 abbrev pub CardsItem : Result (Unit {0}) RunFault → Item → List Action → (old new : Run) → (before after : Outcome)
     → (d e : Devices) → Type 0
 CardsItem result item waiting old new before after d e = ItemBy RunTimely result item waiting old new before after d e

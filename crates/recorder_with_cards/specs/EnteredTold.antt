@@ -22,11 +22,12 @@ TellEvents number (BeginsRow card session spared ∷ notes) events = TellEvents 
 TellEvents number (Tells v ∷ notes) [] = ⊥
 TellEvents number (Tells v ∷ notes) (e ∷ events) = NoteTellsEvent number e v × TellEvents number notes events
 
--- that the vehicle moved, and that the session from another second was not closed: 0 is none
+-- that the vehicle moved, where the speed is not 0
 abbrev pub moving_events : (speed second : ℕ) → Crew → List Event
 moving_events speed second crew = if nat_lt 0 speed then noted_with INSERTION_WHILE_DRIVING second second crew ∷ []
     else []
 
+-- and that the session from another second was not closed: 0 is none
 abbrev pub unclosed_events : (session second : ℕ) → Crew → List Event
 unclosed_events session second crew = if nat_eq session 0 then [] else noted_with SESSION_NOT_CLOSED session second crew
     ∷ []

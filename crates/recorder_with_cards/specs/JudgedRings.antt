@@ -85,6 +85,7 @@ pub record MayInsertInRings (o : Since) (a : Acceptance) (verdicts : List Verdic
   pub inserts : IsInsertionNow o a spans e head
   pub writes : WritesRing (MayBeAdded insertion_ring head) d e
 
+-- one of these, by whether the unit failed
 abbrev pub JudgedInRings : (failed : Bool) → Since → Acceptance → List Verdict → List SpanFrom
     → (seats fewer : Card → Option Seating) → (d e : Devices) → Type 0
 JudgedInRings false o a verdicts spans seats fewer d e = PassesInRings verdicts seats fewer d e

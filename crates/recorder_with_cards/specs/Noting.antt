@@ -61,11 +61,12 @@ JudgesThese None slot at speed old new before after vs = (new ≡ old) × (after
 JudgesThese (Some card) slot at speed old new before after vs = (e : Entering) × IsEnteringNow slot card at speed old e
     × (a : IsAccepted e old new before after) × (vs ≡ judged_events a.way e old)
 
--- the card of the driver slot, and behind it that of the co-driver slot
+-- the card of the driver slot
 abbrev pub JudgesDriver : (speed : ℕ) → (old new : Run) → (before after : Outcome) → List UnitEvent → Type 0
 JudgesDriver speed old new before after vs = JudgesThese (card_in (seat_in old.keeper.cabin.slots.seats Driver)) Driver
     (now_moment old) speed old new before after vs
 
+-- both cards, first that of the driver slot: what is noted of the one, and then of the other
 pub record JudgesBoth (speed : ℕ) (old new : Run) (before after : Outcome) (vs : List UnitEvent) : Type 0 where
   pub one : Run
   pub told : Outcome
@@ -124,10 +125,11 @@ pub record NotesWaking (kept speed : ℕ) (failed : Bool) (old new : Run) (befor
   pub are : AreWakingEvents reach kept speed failed old new before after events
   pub notes : NotesEvents events failed d later
 
--- what was read of the unit: its last-kept minute, which tells of the cuts before
+-- the run, once the unit was read: of no break it is unknown any more what was kept
 abbrev pub read_run : Run → Outcome → Run
 read_run run before = record run { unfound = length before.breaks.items }
 
+-- the outcome then: those cuts tell the minute
 abbrev pub read_outcome : (kept : ℕ) → Run → Outcome → Outcome
 read_outcome kept run before = record before {
   breaks = record { items = found_from run.unfound kept before.breaks.items; room = before.breaks.room };

@@ -28,10 +28,11 @@ actions_in items = flat_map action_of items
 
 -- ---- what calls carry on, whatever that is
 
--- what is carried within a second, behind so many of its actions; and what is carried between two seconds
+-- what is carried within a second, behind so many of its actions
 abbrev pub Inside : Type 1
 Inside = Origin → List TraceSecond → TraceSecond → (n : ℕ) → Run → Outcome → Devices → Type 0
 
+-- what is carried between two seconds
 abbrev pub Between : Type 1
 Between = Origin → List TraceSecond → Run → Outcome → Devices → Type 0
 
@@ -43,6 +44,7 @@ HasBegunBy R I (Ok true) o done s run out d = I o done s 0 run out d
 HasBegunBy R I (Ok false) o done s run out d = R o done run out d
 HasBegunBy R I (Err fault) o done s run out d = ⊥
 
+-- so it is, whatever is carried, of the next second of a run
 abbrev pub BeginsBy : Between → Inside → Result Bool RunFault → (speed : ℕ) → (old new : Run) → (before after : Outcome)
     → (d e : Devices) → Type 0
 BeginsBy R I result speed old new before after d e = (o : Origin) (done : List TraceSecond) (s : TraceSecond)
@@ -78,16 +80,19 @@ ItemBy R result item waiting old new before after d e = (o : Origin) (done : Lis
 
 -- ---- what is recorded, with its events and rings
 
+-- a second begins
 abbrev pub BeginsRinged : Result Bool RunFault → (speed : ℕ) → (old new : Run) → (before after : Outcome)
     → (d e : Devices) → Type 0
 BeginsRinged result speed old new before after d e = BeginsBy RunRinged InSecondRinged result speed old new before after
     d e
 
+-- actions of a second are carried out
 abbrev pub RingsActions : List Action → (begun speed : ℕ) → (old new : Run) → (before after : Outcome) → (d e : Devices)
     → Type 0
 RingsActions actions begun speed old new before after d e = ActsBy InSecondRinged actions begun speed old new before
     after d e
 
+-- seconds at one speed are over
 abbrev pub RingsSeconds : Result (Unit {0}) RunFault → (seconds speed : ℕ) → List Action → (old new : Run)
     → (before after : Outcome) → (d e : Devices) → Type 0
 RingsSeconds result seconds speed actions old new before after d e = SecondsBy RunRinged result seconds speed actions
@@ -100,6 +105,7 @@ RingsMore result seconds speed old new before after d e = (o : Origin) (done : L
     → RunRinged o done old before d → HaveTime e
     → HasRunBy RunRinged result o (done ++ driven seconds old.next speed []) new after e
 
+-- an item is over
 abbrev pub RingsItem : Result (Unit {0}) RunFault → Item → List Action → (old new : Run) → (before after : Outcome)
     → (d e : Devices) → Type 0
 RingsItem result item waiting old new before after d e = ItemBy RunRinged result item waiting old new before after d e

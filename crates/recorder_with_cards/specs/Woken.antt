@@ -86,6 +86,7 @@ abbrev pub WokenEvented : Result (Unit {0}) RunFault → Origin → List TraceSe
 WokenEvented (Ok done_) o done s run out d = InSecondEvented o done s 0 run out d
 WokenEvented (Err fault) o done s run out d = ⊥
 
+-- so the events go on in the next second of a run, to which power comes
 abbrev pub EventsWaking : Result (Unit {0}) RunFault → (speed : ℕ) → (old new : Run) → (before after : Outcome)
     → (d e : Devices) → Type 0
 EventsWaking result speed old new before after d e = (o : Origin) (done : List TraceSecond) (s : TraceSecond)
@@ -125,6 +126,7 @@ abbrev pub WokenRinged : Result (Unit {0}) RunFault → Origin → List TraceSec
 WokenRinged (Ok done_) o done s run out d = InSecondRinged o done s 0 run out d
 WokenRinged (Err fault) o done s run out d = ⊥
 
+-- so the rings go on in the next second of a run, to which power comes
 abbrev pub RingsWaking : Result (Unit {0}) RunFault → (speed : ℕ) → (old new : Run) → (before after : Outcome)
     → (d e : Devices) → Type 0
 RingsWaking result speed old new before after d e = (o : Origin) (done : List TraceSecond) (s : TraceSecond)

@@ -18,10 +18,11 @@ use Rattle.recorder_with_cards.specs.Recorded.{actions_in}
 
 -- ---- how many each takes
 
--- A CARD IS ACCEPTED, or refused: so many writes at most on the unit, and on the card
+-- A CARD IS ACCEPTED, or refused: so many writes at most on the unit
 abbrev pub accept_unit_most : ℕ
 accept_unit_most = 24
 
+-- and on the card
 abbrev pub accept_card_most : ℕ
 accept_card_most = 1072
 
@@ -29,6 +30,7 @@ accept_card_most = 1072
 abbrev pub action_unit_most : ℕ
 action_unit_most = 102
 
+-- and on a card
 abbrev pub action_card_most : ℕ
 action_card_most = 1366
 
@@ -36,6 +38,7 @@ action_card_most = 1366
 abbrev pub resume_unit_most : ℕ
 resume_unit_most = 94
 
+-- and on a card: no more than those of both
 abbrev pub resume_card_most : ℕ
 resume_card_most = 2152
 
@@ -45,11 +48,12 @@ WritesFor turns actions old new =
     WroteAtMost (turn_unit_most * turns + action_unit_most * actions)
     (settle_card_most * turns + action_card_most * actions) old new
 
--- and so many with these power-ons
+-- and so many with these power-ons, on the unit
 abbrev pub unit_most : (power_ons turns actions : ℕ) → ℕ
 unit_most power_ons turns actions =
     resume_unit_most * power_ons + (turn_unit_most * turns + action_unit_most * actions)
 
+-- and so many on a card
 abbrev pub card_most : (power_ons turns actions : ℕ) → ℕ
 card_most power_ons turns actions =
     resume_card_most * power_ons + (settle_card_most * turns + action_card_most * actions)
@@ -76,6 +80,7 @@ abbrev pub turns_from : (number : ℕ) → List Item → ℕ
 turns_from number [] = 0
 turns_from number (item ∷ items) = turns_at number item + turns_from (number + item_seconds item) items
 
+-- THE TURNS OF A TRACE
 unfoldable pub turns_of : (start : ℕ) → List Item → ℕ
 turns_of start items = turns_from start items
 
@@ -115,11 +120,12 @@ power_ons start items failed = min (turns_of start items) (1 + offs items + fail
 
 -- ---- how many writes a trace begins
 
--- so many on the unit, and so many on a card, where its log tells so many cuts that a failed call made
+-- so many on the unit, where its log tells so many cuts that a failed call made
 abbrev pub unit_writes : (start : ℕ) → List Item → (failed : ℕ) → ℕ
 unit_writes start items failed =
     unit_most (power_ons start items failed) (turns_of start items) (length (actions_in items))
 
+-- and so many on a card
 abbrev pub card_writes : (start : ℕ) → List Item → (failed : ℕ) → ℕ
 card_writes start items failed =
     card_most (power_ons start items failed) (turns_of start items) (length (actions_in items))

@@ -9,7 +9,7 @@ ghost use Rattle.run_minutes.specs.run_devices.Told.{arranged};
 ghost use Rattle.run_acts.specs.Acts.{RunStandsBehind};
 ghost use Rattle.recorder_with_cards.specs.Acts.{AcceptsAnew, AcceptsHere, AcceptsIn, CardGoes, DevicesGo};
 ghost use Rattle.recorder_with_cards.specs.Acts.{LeavesAccepted, LeavesAnew, LeavesHere, PromisesAccepting};
-ghost use Rattle.recorder_with_cards.specs.Acts.{PromisesAnew, PromisesHere, MayAccept, MayJudgeAnew};
+ghost use Rattle.recorder_with_cards.specs.Acts.{PromisesAnew, PromisesHere, HasRoomForOwed, MayAccept, MayJudgeAnew};
 ghost use Rattle.recorder_with_cards.specs.Writes.{accept_unit_most, accept_card_most};
 
 use activity_codec::Slot;
@@ -62,8 +62,9 @@ pub(crate) fn accept_here<M: Medium, C: Chip, D: Chip>(
         (chip_a_of entering.which (C.card card.new) (D.card others.now))
         (chip_b_of entering.which (C.card card.new) (D.card others.now)) }
     ensures takes { TakesFind run.old run.new outcome.old outcome.new }
-    // What a run promises goes on with it.
-    ensures promises { PromisesHere entering (is_err result) run.old run.new outcome.old outcome.new
+    // What a run promises goes on with it, where there is room for the marks of what the card is owed.
+    ensures promises { HasRoomForOwed 1 outcome.old
+        → PromisesHere entering (is_err result) run.old run.new outcome.old outcome.new
         (arranged entering.which (M.state unit.old) (C.state card.old) (D.state others.now))
         (arranged entering.which (M.state unit.new) (C.state card.new) (D.state others.now)) }
     ensures leaves { LeavesHere entering (is_err result) run.old run.new outcome.old outcome.new (M.state unit.old)
@@ -79,7 +80,7 @@ pub(crate) fn accept_here<M: Medium, C: Chip, D: Chip>(
     let beside = Beside { entering, others };
     let answer = accept(&mut run.keeper, &mut noted, beside, unit, card, outcome);
     run.noted = noted;
-    // So many insertions were noted at most: a find was told of each.
+    // For the proof alone: no more insertions were noted than finds are told, which are counted in a `usize`.
     let _most = outcome.finds.len();
     answer
 }
@@ -102,8 +103,8 @@ pub(crate) fn accept_in<M: Medium, C: Chip, D: Chip>(
         (devices (M.state unit.new) (C.state card_a.new) (D.state card_b.new))
         (C.card card_a.new) (D.card card_b.new) }
     ensures takes { TakesFind run.old run.new outcome.old outcome.new }
-    // What a run promises goes on with it.
-    ensures promises { PromisesAccepting put.slot put.card put.at put.speed
+    // What a run promises goes on with it, where there is room for the marks of what the card is owed.
+    ensures promises { HasRoomForOwed 1 outcome.old → PromisesAccepting put.slot put.card put.at put.speed
         (is_err result) run.old run.new outcome.old outcome.new
         (devices (M.state unit.old) (C.state card_a.old) (D.state card_b.old))
         (devices (M.state unit.new) (C.state card_a.new) (D.state card_b.new)) }
@@ -164,7 +165,10 @@ pub(crate) fn accept_anew<M: Medium, C: Chip, D: Chip>(
     ensures takes { Takes
         (bare_count (seat_in run.old.keeper.cabin.slots.seats anew.slot)) 0 0 run.old run.new outcome.old
         outcome.new }
-    ensures promises { PromisesAnew anew.slot anew.at anew.speed (is_err result) run.old run.new outcome.old outcome.new
+    // What a run promises goes on with it, where there is room for the marks of what the card, if one sits there, is
+    // owed.
+    ensures promises { HasRoomForOwed (bare_count (seat_in run.old.keeper.cabin.slots.seats anew.slot)) outcome.old
+        → PromisesAnew anew.slot anew.at anew.speed (is_err result) run.old run.new outcome.old outcome.new
         (devices (M.state unit.old) (C.state card_a.old) (D.state card_b.old))
         (devices (M.state unit.new) (C.state card_a.new) (D.state card_b.new)) }
     ensures still { card_in (seat_in run.old.keeper.cabin.slots.seats anew.slot) ≡ None

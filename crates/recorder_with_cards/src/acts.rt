@@ -1,5 +1,5 @@
 //! The actions of a second.
-ghost use Rattle.std.specs.Prelude.{◌≡◌, ℕ, ◌+◌, ◌-◌, ◌∷◌, [], true, false, None, min};
+ghost use Rattle.std.specs.Prelude.{◌≡◌, ◌-◌, ◌∷◌, [], true, false, None, min};
 ghost use Rattle.std.specs.Prelude.{is_err};
 ghost use Rattle.std.specs.Result.{result_err};
 ghost use Rattle.activity_codec.specs.declared.values.Pick.{Pick};
@@ -7,10 +7,9 @@ ghost use Rattle.trace_model.specs.declared.Action.TheVariants.{Manual};
 ghost use Rattle.log_model.specs.Slots.{refusal};
 ghost use Rattle.run_minutes.specs.card_slots.Calls.{logged};
 ghost use Rattle.run_minutes.specs.run_promise.Between.{devices};
-ghost use Rattle.run_acts.specs.declared.run.Power.TheVariants.{Lit};
 ghost use Rattle.run_acts.specs.ByHand.{stopped_in};
 ghost use Rattle.run_acts.specs.Power.{is_lit};
-ghost use Rattle.run_acts.specs.Going.{largest_number, IsInsideSecond};
+ghost use Rattle.run_acts.specs.Going.{largest_number, IsActing};
 ghost use Rattle.run_acts.specs.Room.{HasRoomWithin, Takes};
 ghost use Rattle.recorder_with_cards.specs.Acting.{put_count};
 ghost use Rattle.recorder_with_cards.specs.Acting.{moment_of};
@@ -21,7 +20,7 @@ ghost use Rattle.run_outcome.specs.Room.{insertion_count};
 ghost use Rattle.run_acts.specs.Acts.{AllGoOn, RunStandsBehind};
 ghost use Rattle.recorder_with_cards.specs.Acts.{ActGoes, ActsAll, ActsItem, ActsLit, ActsSo, CarriesOut, LeavesDone};
 ghost use Rattle.recorder_with_cards.specs.Acts.{PromisesAction, PromisesActions, PromisesAll, PromisesWithPower};
-ghost use Rattle.recorder_with_cards.specs.Acts.{AreAmong};
+ghost use Rattle.recorder_with_cards.specs.Acts.{AreAmong, MayAct, MayActLit, StandsActed};
 ghost use Rattle.recorder_with_cards.specs.Writes.{action_unit_most, action_card_most};
 
 use crate::accepting::SlotCard;
@@ -43,7 +42,7 @@ pub(crate) fn number_of(actions: usize) -> u32
 /// A second, by the items of its actions, from one index to another: whether it has power at its beginning, and at
 /// which speed in km/h.
 #[derive(Clone, Copy)]
-pub(crate) struct SecondDue<I> {
+pub(crate) struct ActsOfSecond<I> {
     pub items: I,
     pub from: usize,
     pub to: usize,
@@ -51,19 +50,19 @@ pub(crate) struct SecondDue<I> {
     pub speed: u8,
 }
 
-// An item of the trace that is due in a second: as its action of this number, whether the second has power at its
-// beginning, and at which speed in km/h.
+/// An item of the trace that is due in a second: as its action of this number, whether the second has power at its
+/// beginning, and at which speed in km/h.
 #[derive(Clone, Copy)]
-struct ItemDue {
+struct DueItem {
     item: Item,
     begun: u32,
     has_power: bool,
     speed: u8,
 }
 
-// An action that is due, in the same way.
+/// An action that is due, in the same way.
 #[derive(Clone, Copy)]
-struct Deed {
+struct DueAction {
     action: Action,
     begun: u32,
     has_power: bool,
@@ -73,18 +72,16 @@ struct Deed {
 /// The actions of one second in their order, which are the items from one index to another.
 pub(crate) fn act_all<M: Medium, C: Chip, D: Chip>(
     run: &mut Run,
-    due: SecondDue<&Items>,
+    due: ActsOfSecond<&Items>,
     unit: &mut M,
     card_a: &mut C,
     card_b: &mut D,
     outcome: &mut Outcome,
 )
     requires among { AreAmong due.items.now due.from due.to }
-    requires going { IsInsideSecond run.old (M.state unit.old) (C.card card_a.old) (D.card card_b.old)
-        (C.state card_a.old) (D.state card_b.old) }
-    requires dark { due.has_power ≡ false → is_lit run.old.power ≡ false }
-    requires room { HasRoomWithin run.old outcome.old 1 0 (insertions_in due.from due.to due.items.now)
-        (due.to - due.from) }
+    requires may { MayAct due.has_power (insertions_in due.from due.to due.items.now) (due.to - due.from) run.old
+        outcome.old (M.state unit.old) (C.card card_a.old) (D.card card_b.old) (C.state card_a.old)
+        (D.state card_b.old) }
     ensures acted { ActsAll due.entry.has_power due.entry.speed
         (between due.entry.from due.entry.to due.entry.items.now) run.old run.new outcome.old outcome.new }
     // What a run promises goes on with them.
@@ -99,19 +96,15 @@ pub(crate) fn act_all<M: Medium, C: Chip, D: Chip>(
     ensures goes { ActGoes (due.entry.to - due.entry.from) outcome.old.breaks.items outcome.new.breaks.items
         (devices (M.state unit.old) (C.state card_a.old) (D.state card_b.old))
         (devices (M.state unit.new) (C.state card_a.new) (D.state card_b.new)) }
-    ensures going { IsInsideSecond run.new (M.state unit.new) (C.card card_a.new) (D.card card_b.new)
-        (C.state card_a.new) (D.state card_b.new) }
-    ensures room { (left offs insertions actions : ℕ)
-        → HasRoomWithin run.old outcome.old (1 + left) offs
-        (insertions_in due.entry.from due.entry.to due.entry.items.now + insertions)
-        (due.entry.to - due.entry.from + actions) → HasRoomWithin run.new outcome.new
-        (1 + left) offs insertions actions }
+    ensures behind { StandsActed (insertions_in due.entry.from due.entry.to due.entry.items.now)
+        (due.entry.to - due.entry.from) run.old run.new outcome.old outcome.new
+        (M.state unit.new) (C.card card_a.new) (D.card card_b.new) (C.state card_a.new) (D.state card_b.new) }
 {
     let from = due.from;
     for i in from..due.to {
         act_item(
             run,
-            ItemDue {
+            DueItem {
                 item: *due.items.get(i),
                 begun: number_of(i - from + 1),
                 has_power: due.has_power,
@@ -125,19 +118,17 @@ pub(crate) fn act_all<M: Medium, C: Chip, D: Chip>(
     }
 }
 
-// An action among the items.
+/// An action among the items.
 fn act_item<M: Medium, C: Chip, D: Chip>(
     run: &mut Run,
-    due: ItemDue,
+    due: DueItem,
     unit: &mut M,
     card_a: &mut C,
     card_b: &mut D,
     outcome: &mut Outcome,
 )
-    requires going { IsInsideSecond run.old (M.state unit.old) (C.card card_a.old) (D.card card_b.old)
-        (C.state card_a.old) (D.state card_b.old) }
-    requires dark { due.has_power ≡ false → is_lit run.old.power ≡ false }
-    requires room { HasRoomWithin run.old outcome.old 1 0 (insertion_count due.item) 1 }
+    requires may { MayAct due.has_power (insertion_count due.item) 1 run.old outcome.old (M.state unit.old)
+        (C.card card_a.old) (D.card card_b.old) (C.state card_a.old) (D.state card_b.old) }
     ensures acted { ActsItem due.item due.has_power due.begun due.speed run.old run.new outcome.old outcome.new }
     // What a run promises goes on with it.
     ensures promises { PromisesWithPower due.has_power (action_of due.item) due.begun due.speed run.old run.new
@@ -150,16 +141,12 @@ fn act_item<M: Medium, C: Chip, D: Chip>(
     ensures goes { ActGoes 1 outcome.old.breaks.items outcome.new.breaks.items
         (devices (M.state unit.old) (C.state card_a.old) (D.state card_b.old))
         (devices (M.state unit.new) (C.state card_a.new) (D.state card_b.new)) }
-    ensures going { IsInsideSecond run.new (M.state unit.new) (C.card card_a.new) (D.card card_b.new)
-        (C.state card_a.new) (D.state card_b.new) }
-    ensures dark { due.has_power ≡ false → is_lit run.new.power ≡ false }
-    ensures room { (left offs insertions actions : ℕ)
-        → HasRoomWithin run.old outcome.old (1 + left) offs (insertion_count due.item + insertions) (1 + actions)
-        → HasRoomWithin run.new outcome.new (1 + left) offs insertions actions }
+    ensures behind { StandsActed (insertion_count due.item) 1 run.old run.new outcome.old outcome.new
+        (M.state unit.new) (C.card card_a.new) (D.card card_b.new) (C.state card_a.new) (D.state card_b.new) }
 {
     match due.item {
         Item::Act(action) => {
-            let deed = Deed {
+            let deed = DueAction {
                 action,
                 begun: due.begun,
                 has_power: due.has_power,
@@ -172,19 +159,18 @@ fn act_item<M: Medium, C: Chip, D: Chip>(
     }
 }
 
-// One action: in a second without power it is refused, and one that comes after a cut in its second is not carried out.
+/// One action: in a second without power it is refused, and one that comes after a cut in its second is not carried
+/// out.
 fn act<M: Medium, C: Chip, D: Chip>(
     run: &mut Run,
-    deed: Deed,
+    deed: DueAction,
     unit: &mut M,
     card_a: &mut C,
     card_b: &mut D,
     outcome: &mut Outcome,
 )
-    requires going { IsInsideSecond run.old (M.state unit.old) (C.card card_a.old) (D.card card_b.old)
-        (C.state card_a.old) (D.state card_b.old) }
-    requires dark { deed.has_power ≡ false → is_lit run.old.power ≡ false }
-    requires room { HasRoomWithin run.old outcome.old 1 0 (put_count deed.action) 1 }
+    requires may { MayAct deed.has_power (put_count deed.action) 1 run.old outcome.old (M.state unit.old)
+        (C.card card_a.old) (D.card card_b.old) (C.state card_a.old) (D.state card_b.old) }
     ensures acted { ActsSo deed.has_power deed.action deed.begun deed.speed run.old run.new outcome.old outcome.new }
     // What a run promises goes on with it.
     ensures promises { PromisesWithPower deed.has_power (deed.action ∷ []) deed.begun deed.speed run.old run.new
@@ -197,12 +183,8 @@ fn act<M: Medium, C: Chip, D: Chip>(
     ensures goes { ActGoes 1 outcome.old.breaks.items outcome.new.breaks.items
         (devices (M.state unit.old) (C.state card_a.old) (D.state card_b.old))
         (devices (M.state unit.new) (C.state card_a.new) (D.state card_b.new)) }
-    ensures going { IsInsideSecond run.new (M.state unit.new) (C.card card_a.new) (D.card card_b.new)
-        (C.state card_a.new) (D.state card_b.new) }
-    ensures dark { is_lit run.old.power ≡ false → is_lit run.new.power ≡ false }
-    ensures room { (left offs insertions actions : ℕ)
-        → HasRoomWithin run.old outcome.old (1 + left) offs (put_count deed.action + insertions) (1 + actions)
-        → HasRoomWithin run.new outcome.new (1 + left) offs insertions actions }
+    ensures behind { StandsActed (put_count deed.action) 1 run.old run.new outcome.old outcome.new
+        (M.state unit.new) (C.card card_a.new) (D.card card_b.new) (C.state card_a.new) (D.state card_b.new) }
 {
     let has_power = deed.has_power;
     if !has_power {
@@ -215,19 +197,17 @@ fn act<M: Medium, C: Chip, D: Chip>(
     act_lit(run, deed, unit, card_a, card_b, outcome);
 }
 
-// One action with power.
+/// One action with power.
 fn act_lit<M: Medium, C: Chip, D: Chip>(
     run: &mut Run,
-    deed: Deed,
+    deed: DueAction,
     unit: &mut M,
     card_a: &mut C,
     card_b: &mut D,
     outcome: &mut Outcome,
 )
-    requires lit { run.old.power ≡ Lit }
-    requires going { IsInsideSecond run.old (M.state unit.old) (C.card card_a.old) (D.card card_b.old)
-        (C.state card_a.old) (D.state card_b.old) }
-    requires room { HasRoomWithin run.old outcome.old 1 0 (put_count deed.action) 1 }
+    requires may { MayActLit (put_count deed.action) run.old outcome.old (M.state unit.old) (C.card card_a.old)
+        (D.card card_b.old) (C.state card_a.old) (D.state card_b.old) }
     ensures acted { ActsLit deed.action deed.begun deed.speed run.old run.new outcome.old outcome.new }
     ensures promises { PromisesActions (deed.action ∷ []) deed.begun deed.speed run.old run.new outcome.old outcome.new
         (devices (M.state unit.old) (C.state card_a.old) (D.state card_b.old))
@@ -237,11 +217,8 @@ fn act_lit<M: Medium, C: Chip, D: Chip>(
     ensures goes { ActGoes 1 outcome.old.breaks.items outcome.new.breaks.items
         (devices (M.state unit.old) (C.state card_a.old) (D.state card_b.old))
         (devices (M.state unit.new) (C.state card_a.new) (D.state card_b.new)) }
-    ensures going { IsInsideSecond run.new (M.state unit.new) (C.card card_a.new) (D.card card_b.new)
-        (C.state card_a.new) (D.state card_b.new) }
-    ensures room { (left offs insertions actions : ℕ)
-        → HasRoomWithin run.old outcome.old (1 + left) offs (put_count deed.action + insertions) (1 + actions)
-        → HasRoomWithin run.new outcome.new (1 + left) offs insertions actions }
+    ensures behind { StandsActed (put_count deed.action) 1 run.old run.new outcome.old outcome.new
+        (M.state unit.new) (C.card card_a.new) (D.card card_b.new) (C.state card_a.new) (D.state card_b.new) }
 {
     if let Err(fault) = may(run, deed.action, deed.speed) {
         run.refuse(deed.begun, fault, &mut outcome.refused);
@@ -252,8 +229,8 @@ fn act_lit<M: Medium, C: Chip, D: Chip>(
     }
 }
 
-// Whether the slots and the speed, and of an entry by hand the session of the slot's card, let an action be carried
-// out.
+/// Whether the slots and the speed, and of an entry by hand the session of the slot's card, let an action be carried
+/// out.
 fn may(run: &Run, action: Action, speed: u8) -> Result<(), SlotFault>
     ensures { result_err result ≡ stopped_in run.now speed action }
 {
@@ -267,7 +244,7 @@ fn may(run: &Run, action: Action, speed: u8) -> Result<(), SlotFault>
     }
 }
 
-// Whether the slots and the speed, and then the session of the slot's card, let an entry by hand be done.
+/// Whether the slots and the speed, and then the session of the slot's card, let an entry by hand be done.
 fn may_hold(run: &Run, slot: Slot, minute: u16, speed: u8) -> Result<(), SlotFault>
     ensures answer { (pick : Pick) → result_err result ≡ stopped_in run.now speed (Manual slot pick minute) }
 {
@@ -275,18 +252,17 @@ fn may_hold(run: &Run, slot: Slot, minute: u16, speed: u8) -> Result<(), SlotFau
     may_enter(run, slot, minute)
 }
 
-// An action that is not refused.
+/// An action that is not refused.
 fn carry_out<M: Medium, C: Chip, D: Chip>(
     run: &mut Run,
-    deed: Deed,
+    deed: DueAction,
     unit: &mut M,
     card_a: &mut C,
     card_b: &mut D,
     outcome: &mut Outcome,
 ) -> Result<(), Failed>
-    requires lit { run.old.power ≡ Lit }
-    requires going { IsInsideSecond run.old (M.state unit.old) (C.card card_a.old) (D.card card_b.old)
-        (C.state card_a.old) (D.state card_b.old) }
+    requires acting { IsActing run.old (M.state unit.old) (C.card card_a.old) (D.card card_b.old) (C.state card_a.old)
+        (D.state card_b.old) }
     requires allowed { stopped_in run.old deed.speed deed.action ≡ None }
     requires room { HasRoomWithin run.old outcome.old 1 0 (put_count deed.action) 0 }
     ensures done { CarriesOut deed.action (moment_of deed.begun run.old) deed.speed

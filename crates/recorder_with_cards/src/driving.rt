@@ -11,7 +11,7 @@ ghost use Rattle.recorder_with_cards.specs.Acts.{AreAmong, HasRoomFor, MayGoOn};
 ghost use Rattle.recorder_with_cards.specs.Gone.{HasGone};
 ghost use Rattle.recorder_with_cards.specs.Writes.{turns_among};
 
-use crate::acts::{SecondDue, act_all, number_of};
+use crate::acts::{ActsOfSecond, act_all, number_of};
 use crate::resuming::begin_second;
 use run_acts::{Run, Stretch, turn, turn_length};
 use run_opening::RunFault;
@@ -21,7 +21,7 @@ use trace_text::Items;
 
 /// So many seconds at one speed in km/h, with the items of the actions at their beginning, from one index to another.
 #[derive(Clone, Copy)]
-pub(crate) struct SecondsDue<I> {
+pub(crate) struct DrivenSeconds<I> {
     pub items: I,
     pub from: usize,
     pub to: usize,
@@ -29,18 +29,22 @@ pub(crate) struct SecondsDue<I> {
     pub speed: u8,
 }
 
-// So many more seconds at one speed in km/h.
+/// So many more seconds at one speed in km/h.
 #[derive(Clone, Copy)]
-struct AtSpeed {
+struct MoreSeconds {
     seconds: u32,
     speed: u8,
 }
 
 /// So many seconds at one speed, from 1 on, with the actions among the items from one index to another at their
 /// beginning.
+///
+/// # Errors
+///
+/// `BadUnit` or `ClockBack`, of a unit that is read anew at a power-on.
 pub(crate) fn drive<M: Medium, C: Chip, D: Chip>(
     run: &mut Run,
-    due: SecondsDue<&Items>,
+    due: DrivenSeconds<&Items>,
     unit: &mut M,
     card_a: &mut C,
     card_b: &mut D,
@@ -71,7 +75,7 @@ pub(crate) fn drive<M: Medium, C: Chip, D: Chip>(
         (HasRoom run.new outcome.new left offs insertions actions) }
 {
     let has_power = begin_second(run, due.speed, unit, card_a, card_b, outcome)?;
-    let first = SecondDue {
+    let first = ActsOfSecond {
         items: due.items,
         from: due.from,
         to: due.to,
@@ -81,22 +85,22 @@ pub(crate) fn drive<M: Medium, C: Chip, D: Chip>(
     act_all(run, first, unit, card_a, card_b, outcome);
     let begun = number_of(due.to - due.from);
     let stretch = Stretch {
-        n: 1,
+        seconds: 1,
         speed: due.speed,
         begun,
     };
     turn(run, stretch, unit, card_a, card_b, outcome);
-    let more = AtSpeed {
+    let more = MoreSeconds {
         seconds: due.seconds - 1,
         speed: due.speed,
     };
     drive_on(run, more, unit, card_a, card_b, outcome)
 }
 
-// So many more seconds at one speed, at most a minute at a time.
+/// So many more seconds at one speed, at most a minute at a time.
 fn drive_on<M: Medium, C: Chip, D: Chip>(
     run: &mut Run,
-    more: AtSpeed,
+    more: MoreSeconds,
     unit: &mut M,
     card_a: &mut C,
     card_b: &mut D,
@@ -123,7 +127,7 @@ fn drive_on<M: Medium, C: Chip, D: Chip>(
     let mut left = more.seconds;
     while left > 0 {
         let n = turn_length(run.next, left);
-        let turned = AtSpeed {
+        let turned = MoreSeconds {
             seconds: n,
             speed: more.speed,
         };
@@ -133,10 +137,10 @@ fn drive_on<M: Medium, C: Chip, D: Chip>(
     Ok(())
 }
 
-// So many seconds of one minute without actions.
+/// So many seconds of one minute without actions.
 fn step<M: Medium, C: Chip, D: Chip>(
     run: &mut Run,
-    more: AtSpeed,
+    more: MoreSeconds,
     unit: &mut M,
     card_a: &mut C,
     card_b: &mut D,
@@ -161,7 +165,7 @@ fn step<M: Medium, C: Chip, D: Chip>(
 {
     begin_second(run, more.speed, unit, card_a, card_b, outcome)?;
     let stretch = Stretch {
-        n: more.seconds,
+        seconds: more.seconds,
         speed: more.speed,
         begun: 0,
     };

@@ -1,3 +1,4 @@
+//! What is noted as a card enters. Laws.
 ghost use Rattle.std.specs.Prelude.{◌≡◌, ℕ, ◌^◌, ◌<◌, Some, List, ◌++◌, length};
 ghost use Rattle.trace_model.specs.declared.Card.{Card};
 ghost use Rattle.log_model.specs.Course.{Visit};

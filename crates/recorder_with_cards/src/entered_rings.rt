@@ -1,3 +1,4 @@
+//! What an acceptance writes in the rings of the unit. A law.
 ghost use Rattle.recorder_with_cards.specs.EnteredRings.{AcceptWrites};
 
 use tach_media::{Chip, Medium};

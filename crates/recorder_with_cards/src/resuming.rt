@@ -1,16 +1,17 @@
 //! Power is back.
-ghost use Rattle.std.specs.Prelude.{◌≡◌, ℕ, ◌+◌, ◌/◌, ◌<◌, ◌≤◌, true, false, IfOk, IsOk, OnOk};
+ghost use Rattle.std.specs.Prelude.{◌≡◌, ◌/◌, ◌<◌, ◌≤◌, true, false, IfOk, IsOk, OnOk};
 ghost use Rattle.std.specs.Prelude.{length, is_err};
 ghost use Rattle.unit_minutes.specs.unit_model.Image.{IsUnit};
 ghost use Rattle.run_acts.specs.Power.{is_lit, minute_over};
 ghost use Rattle.run_acts.specs.Going.{IsBetweenSeconds, IsInsideSecond};
-ghost use Rattle.run_acts.specs.Room.{HasRoom, HasRoomWithin};
+ghost use Rattle.run_acts.specs.Room.{bare_seats};
 ghost use Rattle.recorder_with_cards.specs.Waking.{TakesUp, TakesAwake};
 ghost use Rattle.recorder_with_cards.specs.Noting.{NotesWaking, NotesFound, NotesPowerOn};
 ghost use Rattle.run_minutes.specs.run_promise.Between.{devices};
 ghost use Rattle.run_acts.specs.Acts.{AllGoOn, RunStandsBehind};
 ghost use Rattle.recorder_with_cards.specs.Acts.{BeginsSecond, BreaksGo, IsWoken, PromisesResuming, PromisesSecond};
-ghost use Rattle.recorder_with_cards.specs.Acts.{PromisesWaking, Resumes, HasRoomFor, IsToldBy, MayWake};
+ghost use Rattle.recorder_with_cards.specs.Acts.{PromisesWaking, Resumes, HasRoomFor, HasRoomForOwed, IsToldBy};
+ghost use Rattle.recorder_with_cards.specs.Acts.{MayWake, StandsBegun};
 ghost use Rattle.recorder_with_cards.specs.Writes.{resume_unit_most, resume_card_most};
 
 use crate::accepting::{SlotAnew, accept_anew};
@@ -47,11 +48,8 @@ pub(crate) fn begin_second<M: Medium, C: Chip, D: Chip>(
     ensures lit { is_lit run.old.power ≡ true
         → IsOk result × (run.new ≡ minute_over run.old) × (outcome.new ≡ outcome.old) × (unit.new ≡ unit.old)
         × (card_a.new ≡ card_a.old) × (card_b.new ≡ card_b.old) }
-    ensures going { OnOk result (IsInsideSecond run.new (M.state unit.new) (C.card card_a.new) (D.card card_b.new)
-        (C.state card_a.new) (D.state card_b.new)) }
-    ensures room { (left offs insertions actions : ℕ) → HasRoom run.old outcome.old (1 + left) offs insertions actions
-        → OnOk result (HasRoomWithin run.new outcome.new (1 + left) offs insertions actions) }
-    ensures unit { IsUnit (M.state unit.new) }
+    ensures behind { StandsBegun result run.old run.new outcome.old outcome.new (M.state unit.new)
+        (C.card card_a.new) (D.card card_b.new) (C.state card_a.new) (D.state card_b.new) }
     // What a run promises goes on with it.
     ensures promises { PromisesSecond result speed run.old run.new outcome.old outcome.new
         (devices (M.state unit.old) (C.state card_a.old) (D.state card_b.old))
@@ -71,7 +69,7 @@ pub(crate) fn begin_second<M: Medium, C: Chip, D: Chip>(
     Ok(true)
 }
 
-// Power is back: the unit is revived and judged.
+/// Power is back: the unit is revived and judged.
 fn power_on<M: Medium, C: Chip, D: Chip>(
     run: &mut Run,
     speed: u8,
@@ -89,8 +87,9 @@ fn power_on<M: Medium, C: Chip, D: Chip>(
         (C.state card_a.new) (D.state card_b.new)) }
     ensures takes { TakesAwake run.old run.new outcome.old outcome.new }
     ensures unit { IsUnit (M.state unit.new) }
-    // What a run promises goes on with it.
-    ensures promises { PromisesWaking result speed run.old run.new outcome.old outcome.new
+    // What a run promises goes on with it, where there is room for the marks of what the cards are owed.
+    ensures promises { HasRoomForOwed (bare_seats run.old.keeper.cabin.slots.seats) outcome.old
+        → PromisesWaking result speed run.old run.new outcome.old outcome.new
         (devices (M.state unit.old) (C.state card_a.old) (D.state card_b.old))
         (devices (M.state unit.new) (C.state card_a.new) (D.state card_b.new)) }
     ensures noted { OnOk result (NotesPowerOn speed run.old run.new outcome.old outcome.new
@@ -118,7 +117,7 @@ fn power_on<M: Medium, C: Chip, D: Chip>(
     }
 }
 
-// What a unit tells where power is back, and the speed in km/h at which it is.
+/// What a unit tells where power is back, and the speed in km/h at which it is.
 #[derive(Drop)]
 struct Waking {
     journal: Journal,
@@ -126,7 +125,7 @@ struct Waking {
     speed: u8,
 }
 
-// The unit has this journal: the cuts since the last one tell what it says, and a new span begins.
+/// The unit has this journal: the cuts since the last one tell what it says, and a new span begins.
 fn found<M: Medium, C: Chip, D: Chip>(
     run: &mut Run,
     waking: Waking,
@@ -145,8 +144,9 @@ fn found<M: Medium, C: Chip, D: Chip>(
         (C.state card_a.new) (D.state card_b.new)) }
     ensures takes { TakesAwake run.old run.new outcome.old outcome.new }
     ensures unit { IsUnit (M.state unit.new) }
-    // What a run promises goes on with it.
-    ensures promises { PromisesWaking result waking.speed run.old run.new outcome.old outcome.new
+    // What a run promises goes on with it, where there is room for the marks of what the cards are owed.
+    ensures promises { HasRoomForOwed (bare_seats run.old.keeper.cabin.slots.seats) outcome.old
+        → PromisesWaking result waking.speed run.old run.new outcome.old outcome.new
         (devices (M.state unit.old) (C.state card_a.old) (D.state card_b.old))
         (devices (M.state unit.new) (C.state card_a.new) (D.state card_b.new)) }
     ensures noted { OnOk result (NotesFound waking.journal.kept waking.speed run.old run.new outcome.old outcome.new
@@ -166,8 +166,8 @@ fn found<M: Medium, C: Chip, D: Chip>(
     Ok(())
 }
 
-// The unit is mended, a span begins, the cards in the slots are judged anew, and the interruption that ends now is
-// noted, if a power-on came before this one.
+/// The unit is mended, a span begins, the cards in the slots are judged anew, and the interruption that ends now is
+/// noted, if a power-on came before this one.
 fn resume<M: Medium, C: Chip, D: Chip>(
     run: &mut Run,
     waking: Waking,
@@ -187,9 +187,9 @@ fn resume<M: Medium, C: Chip, D: Chip>(
         (devices (M.state unit.new) (C.state card_a.new) (D.state card_b.new))
         (C.card card_a.new) (D.card card_b.new) }
     ensures takes { TakesUp run.old run.new outcome.old outcome.new }
-    // What a run promises goes on with it.
-    ensures promises { PromisesResuming waking.journal.kept waking.speed
-        (is_err result) run.old run.new outcome.old outcome.new
+    // What a run promises goes on with it, where there is room for the marks of what the cards are owed.
+    ensures promises { HasRoomForOwed (bare_seats run.old.keeper.cabin.slots.seats) outcome.old
+        → PromisesResuming waking.journal.kept waking.speed (is_err result) run.old run.new outcome.old outcome.new
         (devices (M.state unit.old) (C.state card_a.old) (D.state card_b.old))
         (devices (M.state unit.new) (C.state card_a.new) (D.state card_b.new)) }
     ensures noted { NotesWaking waking.journal.kept waking.speed (is_err result) run.old run.new outcome.old outcome.new

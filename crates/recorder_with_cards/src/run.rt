@@ -16,7 +16,7 @@ ghost use Rattle.recorder_with_cards.specs.Gone.{first_waiting, has_seconds, Has
 ghost use Rattle.recorder_with_cards.specs.Writes.{turns_at, acts_at};
 ghost use Rattle.recorder_with_cards.specs.Acts.{ItemGoes, PromisesItem, AreAmong, MayGoOn, RunGoes};
 
-use crate::driving::{SecondsDue, drive};
+use crate::driving::{DrivenSeconds, drive};
 use run_acts::Run;
 use run_opening::{RunFault, judge};
 use run_outcome::Outcome;
@@ -86,7 +86,7 @@ pub fn run_trace<U: Medium, C: Chip>(
     let mut first = 0;
     for i in 0..trace.items.len() {
         let item = *trace.items.get(i);
-        let due = ItemDriven {
+        let due = NextItem {
             items: &trace.items,
             from: first,
             to: i,
@@ -98,7 +98,7 @@ pub fn run_trace<U: Medium, C: Chip>(
     Ok(())
 }
 
-// The first item that waits for its second behind an item, where it was this one before: an action waits itself.
+/// The first item that waits for its second behind an item, where it was this one before: an action waits itself.
 fn first_waiting(item: Item, first: usize, index: usize) -> usize
     requires { index < 2 ^ 64 - 1 }
     ensures { result ≡ first_waiting item first index }
@@ -109,19 +109,19 @@ fn first_waiting(item: Item, first: usize, index: usize) -> usize
     }
 }
 
-// An item, with the items of the actions that wait for their second, from one index to another.
+/// An item, with the items of the actions that wait for their second, from one index to another.
 #[derive(Clone, Copy)]
-struct ItemDriven<I> {
+struct NextItem<I> {
     items: I,
     from: usize,
     to: usize,
     item: Item,
 }
 
-// An item, where the actions among the items from one index to another wait for their second.
+/// An item, where the actions among the items from one index to another wait for their second.
 fn go_on<M: Medium, C: Chip, D: Chip>(
     run: &mut Run,
-    due: ItemDriven<&Items>,
+    due: NextItem<&Items>,
     unit: &mut M,
     card_a: &mut C,
     card_b: &mut D,
@@ -160,7 +160,7 @@ fn go_on<M: Medium, C: Chip, D: Chip>(
             Ok(())
         }
         Item::Run { seconds, speed } => {
-            let driven = SecondsDue {
+            let driven = DrivenSeconds {
                 items: due.items,
                 from: due.from,
                 to: due.to,

@@ -27,7 +27,8 @@ use Rattle.run_minutes.proofs.Units.{has-row}
 use Rattle.run_acts.specs.declared.run.Run.{Run}
 use Rattle.run_acts.specs.Power.{with_cabin}
 use Rattle.run_acts.specs.Going.{CardAt, CanBeCut, RunHasPowerAllSeated}
-use Rattle.run_acts.specs.ByHand.{stop_in, session_at, holding, cards_holding, cabin_holding}
+use Rattle.run_minutes.specs.Keeping.{session_at}
+use Rattle.run_acts.specs.ByHand.{stop_in, holding, cards_holding, cabin_holding}
 use Rattle.run_acts.proofs.Cabins.{cabin-going, cabin-held}
 use Rattle.run_acts.specs.Room.{bare_seats, falls_of}
 use Rattle.run_acts.specs.Ringing.{seating_of}
@@ -133,13 +134,6 @@ module _ (e : Manual) where
   some-session B A cards = refl
   some-session B B cards = some_or cards.b.accepted
 
-  -- what is known of a card, but for what its session holds
-  pub sizes-held : (card c : Card) (cards : Cards) → (known_of (cards_holding e card cards) c).sizes ≡ (known_of cards c).sizes
-  sizes-held A A cards = refl
-  sizes-held A B cards = refl
-  sizes-held B A cards = refl
-  sizes-held B B cards = refl
-
   known_held : (known : Known) → IsKnown known → IsKnown (record known { accepted = option_map (holding e) known.accepted })
   known_held known h = by known.accepted h.sized h.numbered
     where
@@ -198,7 +192,7 @@ module _ (e : Manual) where
       by (Some a) t was = holds_more from a t was
 
   -- SLOTS AND SESSIONS STAND, where the session takes it
-  pub holding-stands : (cabin : Cabin) (card : Option Card) (from : ℕ) (leaving : Option Card) → IfSome (session_at card cabin.cards) (λ a. IsTaken a e.minute) → CabinIsSound from leaving cabin → CabinIsSound from leaving (cabin_holding e card cabin)
+  pub holding-stands : (cabin : Cabin) (card : Option Card) (from : ℕ) (leaving : Option Card) → IfSome (session_at cabin.cards card) (λ a. IsTaken a e.minute) → CabinIsSound from leaving cabin → CabinIsSound from leaving (cabin_holding e card cabin)
   holding-stands cabin None from leaving taken h = h
   holding-stands cabin (Some card) from leaving taken h = record {
     a = known-held card A cabin.cards h.a;

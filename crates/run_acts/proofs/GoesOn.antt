@@ -1,11 +1,9 @@
 -- What the keeping of minutes leaves of the devices is what a call leaves of them: what might have been left might be left still, and a card that was as it was is so, or has a session.
-use Rattle.std.proofs.Common.{◌≡◌, ◌⊎◌, inl, inr, ⊎_elim, ℕ, ◌+◌, ◌-◌, ◌≤◌, Bool, true, false, Option, Some, None, is_some, List, [], refl, subst, ◌∙◌, arith}
+use Rattle.std.proofs.Common.{◌≡◌, ◌⊎◌, inl, inr, ⊎_elim, ℕ, ◌+◌, ◌-◌, ◌≤◌, Bool, true, Option, Some, None, is_some, List, [], refl, subst, ◌∙◌, arith}
 use Rattle.std.proofs.lemmas.Bool.{cases_lt}
 use Rattle.trace_model.specs.declared.Card.{Card}
 use Rattle.trace_model.specs.declared.Card.TheVariants.{A, B}
-use Rattle.tach_media.specs.Medium.{State, Rose, HasCause, LeavesOnly}
-use Rattle.tach_media.proofs.Runs.{cause_after}
-use Rattle.unit_notes.specs.Journal.{LeavesJournal}
+use Rattle.tach_media.specs.Medium.{State, Rose}
 use Rattle.log_model.specs.run_model.declared.Device.TheVariants.{Unit as Recorder}
 use Rattle.log_model.specs.Causes.{RoseBy}
 use Rattle.device_calls.specs.safety_model.Safe.{Devices, card_of, breakdowns_of}
@@ -70,17 +68,6 @@ settled-later goes speeds = record { unit = goes.all.later.unit; card_a = goes.a
 
 pub settled-noted : {at : Moment} {failed : Bool} {old new : Run} {before after : Outcome} {d e : Devices} → KeepsSettled at failed old new before after d e → NotesSettling at failed old new before after d.unit e.unit
 settled-noted k = (k.decided, k.given, k.reach, k.is, k.noted)
-
--- BEHIND A NOTE on the unit alone they go on
-pub noted-devices : (failed : Bool) (cards after : Cards) (d : Devices) (U V X Y : State) → DevicesGoOn false cards after d (devices U X Y) → LeavesOnly U V LeavesJournal → HasCause U V failed → DevicesGoOn failed cards after d (devices V X Y)
-noted-devices failed cards after d U V X Y h run cause = record {
-  cause = cause_after h.cause cause;
-  keeps = λ t x le at. run.keeps t x (let on = h.clock in omega (arith, le, on)) (h.keeps t x le at);
-  tells = run.tells ∙ h.tells;
-  clock = let on = h.clock in let later = run.later in omega (arith, on, later);
-  card_a = h.card_a;
-  card_b = h.card_b;
-}
 
 -- a card without a session is as it was
 untouched-card : (f : CardFound) (session after : Option Accepted) (old new : State) → CardGoesOn session after old new → IsUntouched f old → IsUntouched f new ⊎ (is_some session ≡ true)

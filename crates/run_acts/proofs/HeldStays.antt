@@ -16,7 +16,8 @@ use Rattle.run_crew.specs.declared.cabin.Cabin.{Cabin}
 use Rattle.run_crew.specs.Cards.{session_of}
 use Rattle.run_minutes.specs.run_promise.Found.{CardFound, found_of}
 use Rattle.run_minutes.specs.run_promise.Origin.{Origin}
-use Rattle.run_acts.specs.ByHand.{session_at, holding, cabin_holding}
+use Rattle.run_minutes.specs.Keeping.{session_at}
+use Rattle.run_acts.specs.ByHand.{holding, cabin_holding}
 use Rattle.run_acts.specs.Closings.{Spell, spells_of}
 use Rattle.run_acts.specs.Comings.{TellMore}
 use Rattle.run_acts.specs.Truths.{Truths}
@@ -43,7 +44,7 @@ module _ (whose : Whose) (t : Truths) (c : Card) (u : ℕ) (f : CardFound) (log 
       (λ only shown all. (on-last-true t (with_hand e) ss (λ x front are is. is) all.0, on-last-owes (owed_by whose t c) (with_hand e) (λ x. refl) (λ x. refl) r (own_sizes f.image).activity ss (start_shown f.image) all.1))
 
 -- SO THE STAYS OF BOTH GO ON: nothing that is noted or told changes
-pub all-holding : (o : Origin) (t : Truths) (u : ℕ) (log : RunLog) (notes : List Note) (r : Registration) (cabin : Cabin) (card : Option Card) (e : Manual) (d : Devices) → IfSome (session_at card cabin.cards) (λ a. IsTaken a e.minute)
+pub all-holding : (o : Origin) (t : Truths) (u : ℕ) (log : RunLog) (notes : List Note) (r : Registration) (cabin : Cabin) (card : Option Card) (e : Manual) (d : Devices) → IfSome (session_at cabin.cards card) (λ a. IsTaken a e.minute)
     → AllStay o t u log notes r cabin d → AllStay o t u log notes r (cabin_holding e card cabin) d
 all-holding o t u log notes r cabin None e d taken all = all
 all-holding o t u log notes r cabin (Some A) e d taken all =

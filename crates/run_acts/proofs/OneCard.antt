@@ -168,9 +168,6 @@ module _ (card : Card) (slot : Slot) (at : Moment) (run new : Run) (breaks after
   pub cabin-noted : new ≡ with_cabin (noted_cabin fell card at.second run) run
   cabin-noted = noted.run ∙ noted-is fell card at.second run
 
-  pub next-noted : new.next ≡ run.next
-  next-noted = ap (λ (r : Run). r.next) cabin-noted
-
   -- of the other card the same is known
   pub known-noted : known_of new.keeper.cabin.cards (other card) ≡ known_of run.keeper.cabin.cards (other card)
   known-noted = ap (λ (r : Run). known_of r.keeper.cabin.cards (other card)) cabin-noted ∙ noted-beside card fell at.second run

@@ -51,11 +51,13 @@ pub data Closing : Type 0 where
   Closed : Closing
   Fell : Closing
 
+-- slots and sessions behind it: no session, and where the call failed the card torn out
 abbrev pub closed_cabin : Closing → Card → (second : ℕ) → Cabin → Cabin
 closed_cabin Bare card second cabin = with_session_of card None cabin
 closed_cabin Closed card second cabin = with_session_of card None cabin
 closed_cabin Fell card second cabin = torn_out card second (with_session_of card None cabin)
 
+-- and the line of its tear, where the call failed
 abbrev pub closed_breaks : Closing → Slot → Moment → List Break
 closed_breaks Bare slot at = []
 closed_breaks Closed slot at = []
@@ -116,6 +118,7 @@ abbrev pub pulled_run : Option Card → (second : ℕ) → Run → Run
 pulled_run None second run = run
 pulled_run (Some card) second run = with_cabin (torn_out card second run.keeper.cabin) run
 
+-- and the line that tells so
 abbrev pub pulled_breaks : Option Card → Slot → Moment → List Break
 pulled_breaks None slot at = []
 pulled_breaks (Some card) slot at = pull_of slot at ∷ []
@@ -125,14 +128,17 @@ abbrev pub noted_run : (fell : Bool) → Card → (second : ℕ) → Run → Run
 noted_run false card second run = run
 noted_run true card second run = with_cabin (torn_out card second run.keeper.cabin) run
 
+-- and the line of its tear, if it is
 abbrev pub noted_breaks : (fell : Bool) → Slot → Moment → List Break
 noted_breaks false slot at = []
 noted_breaks true slot at = tear_of slot at ∷ []
 
+-- so many cards were torn out
 abbrev pub falls_by : (fell : Bool) → ℕ
 falls_by false = 0
 falls_by true = 1
 
+-- run and breaks behind a note on a card, which fell or did not
 pub record IsNotedOn (card : Card) (slot : Slot) (at : Moment) (old new : Run) (breaks after : Listed Break)
     (fell : Bool) : Type 0 where
   pub run : new ≡ noted_run fell card at.second old

@@ -20,7 +20,7 @@ use Rattle.run_minutes.specs.Keeping.{CardMayBeCalled, HasItsRow, UnitMayBeCalle
 use Rattle.run_minutes.specs.Later.{AreAfter, AreCalm, AreLater, IsCalm, IsLater}
 use Rattle.run_minutes.specs.Minutes.{IsReach, KeepingState, Reach}
 use Rattle.run_minutes.specs.Stand.{KeepingGoes, Stand}
-use Rattle.run_minutes.specs.Writes.{WroteAtMost}
+use Rattle.run_minutes.specs.Writes.{WroteAtMost, tear_unit_most}
 use Rattle.run_minutes.specs.declared.keeper.Moment.{Moment}
 use Rattle.run_outcome.specs.Broken.{BreaksDown}
 use Rattle.run_outcome.specs.Lines.{Listed}
@@ -44,22 +44,24 @@ use Rattle.run_acts.specs.Behind.{BooksWithdrawn}
 use Rattle.run_acts.specs.Booked.{IsBookedTurn}
 use Rattle.run_acts.specs.CardNotes.{LeavePlaces, LeavesPlaces, NotesOn, NotesOnCards, gap_on, on_seat}
 use Rattle.run_acts.specs.CardWrites.{MayTakePlace, PlaceOn, ShutsSo, WithdrawsShut}
-use Rattle.run_acts.specs.Evented.{EventsLitTurn}
+use Rattle.run_acts.specs.Evented.{EventsTurn, EventsLitTurn}
 use Rattle.run_acts.specs.Faults.{NotesTurn}
-use Rattle.run_acts.specs.Going.{CanBeCut, RunHasPower, RunHasPowerAllSeated}
+use Rattle.run_acts.specs.Going.{CanBeCut, IsBetweenSeconds, RunHasPower, RunHasPowerAllSeated}
 use Rattle.run_acts.specs.NotedEvents.{NotesEvents}
 use Rattle.run_acts.specs.Noting.{AreGapEvents, GapReach, IsGapNoted, IsNoteRecorded, IsPlaceRecorded, NotesClosing}
 use Rattle.run_acts.specs.Noting.{NotesFall, NotesPlace, NotesWithdrawing}
 use Rattle.run_acts.specs.Power.{is_lit, passed}
 use Rattle.run_acts.specs.Recording.{RecordsAction, RecordsTurn}
 use Rattle.run_acts.specs.Ringing.{ClosesSo, WithdrawsSo, WritesPlace}
-use Rattle.run_acts.specs.Room.{falls_of, TakesNone}
+use Rattle.run_acts.specs.Room.{falls_of, HasRoom, HasRoomWithin, TakesNone}
 use Rattle.run_acts.specs.RunCards.{CardsPlace, CardsTurn, CardsWithdrawal}
 use Rattle.run_acts.specs.RunRinged.{RingsGap, RingsPlace, RingsTurn, RingsWithdrawal}
 use Rattle.run_acts.specs.Speeds.{BringsBlock, SpeedsTurn}
 use Rattle.run_acts.specs.Stays.{ClosesOnCard}
 use Rattle.run_acts.specs.Stood.{StandsPlace, StandsTurn, StandsWithdrawal}
 use Rattle.run_acts.specs.Turning.{IsLitTurn, IsTurnOf}
+use Rattle.run_acts.specs.Writes.{close_unit_most, close_card_most, place_card_most, slot_gap_unit_most}
+use Rattle.run_acts.specs.Writes.{slot_gap_card_most}
 use Rattle.run_acts.specs.declared.run.Run.{Run}
 use Rattle.unit_notes.specs.event_model.declared.kinds.TheConstants.{POWER_INTERRUPTION}
 use Rattle.run_events.specs.message_model.Records.{insertion_ring}
@@ -91,7 +93,8 @@ pub record LeavesWithdrawn (slot : Slot) (at : Moment) (failed : Bool) (old new 
   pub shut : (card : Card) → card_in (seat_in old.keeper.cabin.slots.seats slot) ≡ Some card
       → WithdrawsShut card slot at failed old new before after d e
 
--- WHAT A RUN PROMISES goes on with it: its record, the events of the unit, the rings, the events of the cards
+-- WHAT A RUN PROMISES goes on as a card is withdrawn: its record, the events of the unit, its rings, the events of the
+-- cards, and what stood on them
 pub record PromisesWithdrawal (slot : Slot) (at : Moment) (failed : Bool) (old new : Run) (before after : Outcome)
     (d e : Devices) : Type 0 where
   pub recorded : at.late ≡ false → (speed : ℕ)
@@ -157,7 +160,8 @@ pub record LeavesPlaced (slot : Slot) (entry : PlaceEntry) (at : Moment) (failed
       → WritesPlace (number_of_seat old.keeper.cabin.cards (seat_in old.keeper.cabin.slots.seats slot)) entry failed
       d.unit e.unit
 
--- WHAT A RUN PROMISES goes on with it
+-- WHAT A RUN PROMISES goes on as a place is noted: its record, the events of the unit, its rings, the events of the
+-- cards, and what stood on them
 pub record PromisesPlace (slot : Slot) (entry : PlaceEntry) (at : Moment) (failed : Bool) (old new : Run)
     (before after : Listed Break) (d e : Devices) : Type 0 where
   pub recorded : IsPlaceRecorded slot at failed old new before after d e
@@ -186,12 +190,13 @@ pub record LeavesGap (kept : ℕ) (failed : Bool) (old new : Run) (before after 
   pub rings : LeavesRings d.unit e.unit
   pub beside : NoteLeaves failed old before after d e
 
--- WHAT A RUN PROMISES goes on with it
+-- WHAT A RUN PROMISES goes on as the interruption is noted: its record, and the rings
 pub record PromisesGap (failed : Bool) (old new : Run) (before after : Listed Break) (d e : Devices) : Type 0 where
   pub recorded : IsNoteRecorded (In 0) failed old new before after d e
   pub ringed : RingsGap failed old new before after d e
 
--- so it was to be noted on the card of a slot
+-- THE INTERRUPTION WAS TO BE NOTED ON THE CARD OF A SLOT: whether that fell, and nothing else has changed; a tear more
+-- is a card less
 pub record NotesIn (slot : Slot) (failed : Bool) (old new : Run) (before after : Listed Break) : Type 0 where
   pub fell : (fell : Bool) × IsNotedIn (card_in (seat_in old.keeper.cabin.slots.seats slot)) slot (now_moment old) old
       new before after fell × (failed ≡ true → fell ≡ true)
@@ -199,7 +204,8 @@ pub record NotesIn (slot : Slot) (failed : Bool) (old new : Run) (before after :
   pub room : (after.room ≡ before.room)
       × (length after.items + falls_of new.keeper.cabin ≤ length before.items + falls_of old.keeper.cabin)
 
--- and this is left
+-- WHAT THAT LEAVES ON THE DEVICES: its event on that card, and no place; the fault of a card that fell on the unit, and
+-- its rings as they were
 pub record LeavesIn (slot : Slot) (event : UnitEvent) (failed : Bool) (old new : Run) (before after : Listed Break)
     (d e : Devices) : Type 0 where
   pub card_events : NotesOnCards false old.keeper.cabin.cards new.keeper.cabin.cards
@@ -226,13 +232,23 @@ pub record LeavesTurned (n speed begun : ℕ) (old new : Run) (before after : Ou
       → (between : Run) × NotesTurn n speed begun old between before after d.unit e.unit
       × (new ≡ passed n begun between)
 
--- WHAT A RUN PROMISES goes on with them: its record, the rings, the events of the cards, the detailed speed
+-- WHAT A RUN PROMISES goes on over these seconds: its record, the events of the unit, its rings, the events of the
+-- cards, the detailed speed, and what stood on the cards
 pub record PromisesTurn (n speed begun : ℕ) (old new : Run) (before after : Outcome) (d e : Devices) : Type 0 where
   pub recorded : RecordsTurn n speed begun old new before after d e
+  pub evented : EventsTurn n speed begun old new before after d e
   pub ringed : RingsTurn n speed begun old new before after d e
   pub cards : CardsTurn n speed begun old new before after d e
   pub speeds : SpeedsTurn n speed begun old new before after d e
   pub stands : StandsTurn n speed begun old before after d e
+
+-- HOW A RUN STANDS BEHIND SO MANY SECONDS: it is between two of them; and where there was room for these and some more,
+-- there is for those
+pub record StandsTurned (n : ℕ) (old new : Run) (before after : Outcome) (unit : State) (chip_a chip_b : CardState)
+    (a b : State) : Type 0 where
+  pub going : IsBetweenSeconds new unit chip_a chip_b a b
+  pub room : (left offs insertions actions : ℕ) → HasRoomWithin old before (n + left) offs insertions actions
+      → HasRoom new after left offs insertions actions
 
 -- ALL GOES ON over them, and the unit broke down where the power is lost, and nowhere else; and so many writes at most
 -- were begun
@@ -243,7 +259,7 @@ pub record TurnGoes (on_unit on_card : ℕ) (before after : List Break) (d e : D
   pub broke : BreaksDown before after d.unit e.unit
   pub most : WroteAtMost on_unit on_card d e
 
--- so it is with power
+-- SECONDS OF ONE MINUTE WITH POWER are to be over: how they went, before the number of the next second goes on by them
 pub record LitTurns (n speed begun : ℕ) (old new : Run) (before after : Outcome) : Type 0 where
   pub seconds : IsLitTurn n speed begun old new before after
   pub next : new.next ≡ old.next
@@ -251,7 +267,8 @@ pub record LitTurns (n speed begun : ℕ) (old new : Run) (before after : Outcom
   pub refused : after.refused ≡ before.refused
   pub finds : after.finds ≡ before.finds
 
--- and this is left
+-- WHAT THEY LEAVE ON THE DEVICES: the book behind them, what is noted, the events that are recorded so, and a block of
+-- detailed speed, if they end one
 pub record LeavesLit (n speed begun : ℕ) (old new : Run) (before after : Outcome) (d e : Devices) : Type 0 where
   pub booked : IsBookedTurn n speed begun old new before after d e
   pub noted : NotesTurn n speed begun old new before after d.unit e.unit
@@ -331,9 +348,10 @@ pub record NotesGapOn (which : Card) (slot : Slot) (event : UnitEvent) (result :
   pub stands : (from : ℕ) (leaving : Option Card) → CabinIsSound from leaving old.keeper.cabin
       → CabinIsSound from leaving new.keeper.cabin
   pub clock_card : x.clock ≤ y.clock
-  pub most : (V.clock ≤ U.clock + 4) × (y.clock ≤ x.clock + 4)
+  pub most : (V.clock ≤ U.clock + slot_gap_unit_most) × (y.clock ≤ x.clock + slot_gap_card_most)
 
--- so it is of the note of a place
+-- THE NOTE OF A PLACE ON A CARD: whether it fell, what is left of unit and card, and how they stand; and so many writes
+-- at most were begun
 pub record NotesPlaceOn (which : Card) (slot : Slot) (entry : PlaceEntry) (at : Moment)
     (result : Result (Unit {0}) Failed) (old new : Run) (before after : Listed Break) (U V x y : State)
     (chip : CardState) : Type 0 where
@@ -346,7 +364,7 @@ pub record NotesPlaceOn (which : Card) (slot : Slot) (entry : PlaceEntry) (at : 
   pub stands : (from : ℕ) (leaving : Option Card) → CabinIsSound from leaving old.keeper.cabin
       → CabinIsSound from leaving new.keeper.cabin
   pub clock_card : x.clock ≤ y.clock
-  pub most : (V.clock ≤ U.clock + 4) × (y.clock ≤ x.clock + 5)
+  pub most : (V.clock ≤ U.clock + tear_unit_most) × (y.clock ≤ x.clock + place_card_most)
 
 -- THE CLOSING OF A SESSION: how it was closed, what is left of unit and card, and how they stand; and so many writes at
 -- most were begun
@@ -359,7 +377,7 @@ pub record ClosesSession (which : Card) (slot : Slot) (at : Moment) (result : Re
   pub writes : UnitWrites U V
   pub behind : StandsBehind which result old new U V x y chip
   pub stands : (from : ℕ) → CabinIsSound from (Some which) old.keeper.cabin → CabinIsSound from None new.keeper.cabin
-  pub most : (V.clock ≤ U.clock + 4) × (y.clock ≤ x.clock + 8)
+  pub most : (V.clock ≤ U.clock + close_unit_most) × (y.clock ≤ x.clock + close_card_most)
   pub goes : CardGoesOn before.items after.items x y
 
 -- THE KEEPING GOES ON as a second settles: all goes on over what is kept, the detailed speed stays, and so many writes

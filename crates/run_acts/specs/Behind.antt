@@ -44,6 +44,7 @@ IsWithdrawnTo f start w k card false (Short xs m round) closing g u e = ⊥
 IsWithdrawnTo f start w k card true (Whole xs) None g u e = ⊥
 IsWithdrawnTo f start w k card true (Short xs m round) (Some closing) g u e = ⊥
 
+-- THE CARD OF A SLOT WAS TO BE WITHDRAWN, and what that settles came so far: so it is booked.
 abbrev pub BooksWithdrawn : Card → List Minute → (failed : Bool) → Reach → Option Closing → (t u : KeepingState)
     → (d e : Devices) → Type 0
 BooksWithdrawn card decided failed reach closing t u d e = (f : Found) (w : RunLedger) (start : ℕ) (g : Travel)

@@ -16,17 +16,14 @@ use Rattle.run_crew.specs.declared.cards.Accepted.{Accepted}
 use Rattle.run_crew.specs.declared.cards.Cards.{Cards}
 use Rattle.run_crew.specs.declared.cabin.Cabin.{Cabin}
 use Rattle.run_crew.specs.Cards.{session_of, with_session}
+use Rattle.run_minutes.specs.Keeping.{session_at}
 use Rattle.run_acts.specs.declared.run.Run.{Run}
 use Rattle.run_acts.specs.Power.{with_cabin}
 use Rattle.run_record.specs.Within.{stop_told}
 
 -- the session of the card in a slot, if it has one
-abbrev pub session_at : Option Card → Cards → Option Accepted
-session_at None cards = None
-session_at (Some card) cards = session_of cards card
-
 abbrev pub session_in : Slot → Cabin → Option Accepted
-session_in slot cabin = session_at (card_in (seat_in cabin.slots.seats slot)) cabin.cards
+session_in slot cabin = session_at cabin.cards (card_in (seat_in cabin.slots.seats slot))
 
 -- WHY IT IS STOPPED, if it is: by what the session holds, the card's newest minute, and the minute from which on it is
 -- to count
@@ -34,13 +31,15 @@ abbrev pub stop_in : Option Accepted → (minute : ℕ) → Option SlotFault
 stop_in None minute = None
 stop_in (Some a) minute = option_map stop_told (stopped_by a.held a.session.minute minute)
 
+-- why an entry of a minute of the day is stopped, by the session of the card in this slot
 abbrev pub stop_of : Slot → (minute : ℕ) → Run → Option SlotFault
 stop_of slot minute run = stop_in (session_in slot run.keeper.cabin) (minute_on run.next minute)
 
--- an entry by hand, and a session that holds it too
+-- an entry by hand in a slot, of this activity, from this minute on
 abbrev pub entry_from : Slot → Pick → (minute : ℕ) → Manual
 entry_from slot pick minute = record { minute = minute; slot = slot; act = activity_of pick }
 
+-- a session that holds an entry by hand more
 abbrev pub holding : Manual → Accepted → Accepted
 holding e a = record a { held = record a.held { entries = a.held.entries ++ e ∷ [] } }
 
@@ -59,12 +58,12 @@ entered_run slot pick minute run = with_cabin
     (cabin_holding (entry_from slot pick (minute_on run.next minute))
     (card_in (seat_in run.keeper.cabin.slots.seats slot)) run.keeper.cabin) run
 
--- WHY AN ACTION IS REFUSED while there is power: by slots and speed, or else, if it is an entry by hand, by the session
--- of the slot's card
+-- the first cause, or else the other
 abbrev pub or_else : Option SlotFault → Option SlotFault → Option SlotFault
 or_else None other = other
 or_else (Some fault) other = Some fault
 
+-- why an action is stopped by a session: only an entry by hand is
 abbrev pub stop_by : Action → Run → Option SlotFault
 stop_by (Select slot pick) run = None
 stop_by (Insert slot card) run = None
@@ -73,5 +72,7 @@ stop_by (Tear slot) run = None
 stop_by (Place slot ending country region) run = None
 stop_by (EntryByHand slot pick minute) run = stop_of slot minute run
 
+-- WHY AN ACTION IS REFUSED while there is power: by slots and speed, or else, if it is an entry by hand, by the session
+-- of the slot's card
 abbrev pub stopped_in : Run → (speed : ℕ) → Action → Option SlotFault
 stopped_in run speed action = or_else (refusal (logged run.keeper.cabin.slots.seats) speed action) (stop_by action run)

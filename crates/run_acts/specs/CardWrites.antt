@@ -46,6 +46,7 @@ abbrev pub MayHavePlace : Application → PlaceEntry → (card card_after : Stat
 MayHavePlace app entry card card_after = (c : List ℕ) → card_after.may_leave c
     → (x : List ℕ) × card.may_leave x × ((c ≡ x) ⊎ IsNotingPlace app entry x c)
 
+-- so it is of a card with a session
 abbrev pub MayTakePlace : (session : Option Accepted) → PlaceEntry → (card card_after : State) → Type 0
 MayTakePlace session entry card card_after = IfSome session
     (λ a. MayHavePlace a.session.application entry card card_after)

@@ -18,6 +18,7 @@ pub record Spell : Type 0 where
   pub slot : Slot
   pub withdrawn : Option ℕ
 
+-- the spell that the note of an insertion tells
 abbrev pub spell_of : InsertionNote → Spell
 spell_of i = record { second = i.accepted.second; slot = i.accepted.slot; withdrawn = i.withdrawn }
 
@@ -34,6 +35,7 @@ abbrev pub last_shut : (second : ℕ) → Spell → List Spell → List Spell
 last_shut u s [] = record s { withdrawn = Some u } ∷ []
 last_shut u s (t ∷ ss) = s ∷ last_shut u t ss
 
+-- the same of any spells: of none, none
 abbrev pub with_last_shut : (second : ℕ) → List Spell → List Spell
 with_last_shut u [] = []
 with_last_shut u (s ∷ ss) = last_shut u s ss

@@ -12,10 +12,11 @@ pub record VehicleTold : Type 0 where
   pub registration : List ℕ
   pub time : ℕ
 
--- that of an entry; and of the newest vehicle entry of a card, zeros without one
+-- that of an entry in the ring of insertions
 abbrev pub told_in : List ℕ → VehicleTold
 told_in e = record { registration = field_at insertion_widths 9 e; time = number_in insertion_widths 10 e }
 
+-- and of a card's newest vehicle entry: zeros, and time 0, where it has none
 abbrev pub told_of : Option Vehicle → VehicleTold
 told_of None = record { registration = replicate 15 0; time = 0 }
 told_of (Some v) = record { registration = v.registration.0; time = v.last_use.0 }

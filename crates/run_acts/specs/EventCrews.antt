@@ -43,6 +43,7 @@ CardsAreNamed = (number : Card → List ℕ) (start : Start) (told : List ToldSe
 abbrev pub AreKnownAs : (Card → FullCardNumber) → Cards → Type 0
 AreKnownAs number cards = (c : Card) → is_some (session_of cards c) ≡ true → (known_of cards c).number ≡ Some (number c)
 
+-- THE CREW BY THE CABIN is the crew by the slots of the log, each card by its number.
 abbrev pub CrewIsNamed : Type 0
 CrewIsNamed = (number : Card → FullCardNumber) (start : Start) (told : List ToldSecond) (past : List HistoryMinute)
     (left : List Card) (u from low : ℕ) (leaving : Option Card) (slots : Slots) (cabin : Cabin) →

@@ -88,6 +88,7 @@ abbrev pub InSecondEventedBy : (lit : Bool) → Origin → List TraceSecond → 
 InSecondEventedBy true o done s n run out d = WithinEvented o done s (In n) [] [] Acting run out d
 InSecondEventedBy false o done s n run out d = CutEvented o done s run out d
 
+-- with power, or cut, as the run has it
 abbrev pub InSecondEvented : Origin → List TraceSecond → TraceSecond → (n : ℕ) → Run → Outcome → Devices → Type 0
 InSecondEvented o done s n run out d = InSecondEventedBy (is_lit run.power) o done s n run out d
 

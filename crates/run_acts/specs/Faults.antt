@@ -47,6 +47,7 @@ NotesKeeping decided n speed at failed old new before after unit unit_after = (r
     × NotesFaults true (faults_to old.keeper at reach (told_of old before)) unit unit_after)
     ⊎ NotesEnded n speed at failed reach old new before unit unit_after)
 
+-- so it is of a turn with power, by the minutes that it decided
 abbrev pub NotesTurn : (n speed begun : ℕ) → (old new : Run) → (before after : Outcome) → (unit unit_after : State)
     → Type 0
 NotesTurn n speed begun old new before after unit unit_after = (turn : IsLitTurn n speed begun old new before after)

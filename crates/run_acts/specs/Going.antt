@@ -29,10 +29,11 @@ use Rattle.run_acts.specs.Power.{is_lit}
 abbrev pub largest_number : ℕ
 largest_number = 2 ^ 32 - 1
 
--- the seconds that a trace can have: from the second day on, and up to the last day whose end is told in four bytes
+-- the seconds that a trace can have: from this one, that of the second day's begin, on
 abbrev pub first_second : ℕ
 first_second = 86400
 
+-- and up to this one, the end of the last day whose end is told in four bytes
 abbrev pub end_of_seconds : ℕ
 end_of_seconds = 2 ^ 32 - 86400
 
@@ -86,6 +87,7 @@ pub record RunHasPower (leaving : Option Card) (to : ℕ) (run : Run) (unit : St
   -- the newest block of detailed speed that it has added stands at the pointer of the unit's ring
   pub newest : KnowsNewest run.watch.newest unit
 
+-- with power, and no card is leaving
 abbrev pub RunHasPowerAllSeated : (to : ℕ) → Run → (unit : State) → (chip_a chip_b : CardState) → (a b : State) → Type 0
 RunHasPowerAllSeated to run unit chip_a chip_b a b = RunHasPower None to run unit chip_a chip_b a b
 

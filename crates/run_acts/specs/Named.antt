@@ -28,10 +28,12 @@ NamesValid o es = AllByRecursion (λ e. CrewValid o e.at_begin × CrewValid o e.
 abbrev pub spare : List ℕ
 spare = replicate 400 0
 
+-- an image, or that one in its place where a file of it is bad
 abbrev pub by_fault : Option (Fid × ℕ) → List ℕ → List ℕ
 by_fault None x = x
 by_fault (Some bad) x = spare
 
+-- by its first bad file, if it has one
 abbrev pub image_or : List ℕ → List ℕ
 image_or x = by_fault (own_bad_file x) x
 

@@ -28,6 +28,7 @@ abbrev pub is_card : Option Card → Card → Bool
 is_card None c = false
 is_card (Some card) c = same_card card c
 
+-- it is the driver, or the co-driver
 abbrev pub has_card : Crew → Card → Bool
 has_card crew c = is_card crew.driver c || is_card crew.codriver c
 
@@ -38,11 +39,12 @@ has_card crew c = is_card crew.driver c || is_card crew.codriver c
 abbrev pub as_accepted : Tearing
 as_accepted = record { by_gap = λ u slot. true; driver_first = λ u n. true }
 
--- At each acceptance, in these seconds, this use was found on the card: where its session was open that was not closed,
--- from its time, with its vehicle.
+-- At an acceptance in this second this use was found on the card: where its session was open that was not closed, from
+-- its time, with its vehicle.
 abbrev pub unclosed_at : CurrentUse → (second : ℕ) → List CardEvent
 unclosed_at current u = if nat_lt 0 current.session.0 then unclosed current u ∷ [] else []
 
+-- the same of several acceptances, with the uses that were found at each
 abbrev pub unclosed_by : List CurrentUse → (seconds : List ℕ) → List CardEvent
 unclosed_by [] us = []
 unclosed_by (current ∷ uses) [] = []
@@ -154,12 +156,13 @@ pub record MetSecond : Type 0 where
   pub seen : Seen
   pub gap : List Event
 
--- these seconds, behind others; and those of a run
+-- these seconds, behind others
 abbrev pub met_behind : RunLog → (behind seen : List Seen) → List MetSecond
 met_behind log behind [] = []
 met_behind log behind (x ∷ xs) = record { seen = x; gap = gap_by as_accepted log (seen_spans behind) x }
     ∷ met_behind log (behind ++ x ∷ []) xs
 
+-- those of a run, from its first second on
 abbrev pub met_seconds : RunLog → List TraceSecond → List MetSecond
 met_seconds log ss = met_behind log [] (seen_of log ss)
 

@@ -14,6 +14,7 @@ use Rattle.run_acts.specs.declared.run.Run.{Run}
 use Rattle.run_acts.specs.declared.run.Power.{Power}
 use Rattle.run_acts.specs.declared.run.Power.TheVariants.{Lit, Due, Lost}
 
+-- THE UNIT HAS POWER now. (Whether it has it in the next second to which the trace gives power is `has_power`.)
 abbrev pub is_lit : Power → Bool
 is_lit Lit = true
 is_lit Due = false
@@ -55,6 +56,7 @@ abbrev pub over_by : (begins : Bool) → Run → Run
 over_by true run = with_cabin (with_minute_ended (run.next / 60 - 1) run.keeper.cabin) run
 over_by false run = run
 
+-- by the number of the next second
 abbrev pub minute_over : Run → Run
 minute_over run = over_by (run.next % 60 == 0) run
 

@@ -128,6 +128,7 @@ abbrev pub InSecondBy : (lit : Bool) → Origin → List TraceSecond → TraceSe
 InSecondBy true o done s n run out d = RunWithin o done s (In n) [] [] run out d
 InSecondBy false o done s n run out d = RunCut o done s run out d
 
+-- as the run has power, or not
 abbrev pub InSecond : Origin → List TraceSecond → TraceSecond → (n : ℕ) → Run → Outcome → Devices → Type 0
 InSecond o done s n run out d = InSecondBy (is_lit run.power) o done s n run out d
 

@@ -91,6 +91,7 @@ pub record ClosesBehind (card : Card) (slot : Slot) (at : Moment) (failed : Bool
   pub rings : ClosesRings closed.closing (session_of closed.between.keeper.cabin.cards card) at failed closed.between
       unit unit_after
 
+-- so the rings are behind a withdrawal: of an empty slot they stay
 abbrev pub WithdrawsSo : Option Card → Slot → Moment → (failed : Bool) → (old new : Run) → (before after : Outcome)
     → (unit unit_after : State) → Type 0
 WithdrawsSo None slot at failed old new before after unit unit_after = LeavesRings unit unit_after

@@ -17,6 +17,7 @@ waiting Lit owing = owing
 waiting Due owing = 0
 waiting Lost owing = 0
 
+-- of a run: those that its minutes owe
 abbrev pub waiting_of : Run → ℕ
 waiting_of run = waiting run.power run.minutes.owing
 
@@ -29,6 +30,7 @@ bare_count (Some seat) = one seat.newest
     one None = 1
     one (Some newest) = 0
 
+-- so many slots have a card that is not accepted
 abbrev pub bare_seats : Seats → ℕ
 bare_seats seats = bare_count seats.driver + bare_count seats.codriver
 
@@ -41,12 +43,13 @@ abbrev pub finds_due : (lit : Bool) → Cabin → ℕ
 finds_due true cabin = 0
 finds_due false cabin = bare_seats cabin.slots.seats
 
--- the minutes and `off` lines that can have a cut lie from here on: between two seconds, and within one
+-- the minutes and `off` lines that can have a cut lie from here on: between two seconds
 abbrev pub cuts_from : Power → ℕ → ℕ
 cuts_from Lit next = next / 60
 cuts_from Due next = next / 60
 cuts_from Lost next = (next + 59) / 60
 
+-- and within a second: where power is lost in it, from the next minute on
 abbrev pub cuts_within : Power → ℕ → ℕ
 cuts_within Lit next = next / 60
 cuts_within Due next = next / 60
@@ -68,9 +71,11 @@ pub record HasRoomFrom (from : Power → ℕ → ℕ) (run : Run) (o : Outcome) 
       ≤ o.marks.room + 3 * (run.next / 60 - waiting_of run) + MOST_OWED * (2 * from run.power run.next)
   pub refused : length o.refused.items + actions ≤ o.refused.room
 
+-- between two seconds
 abbrev pub HasRoom : Run → Outcome → (left offs insertions actions : ℕ) → Type 0
 HasRoom run o left offs insertions actions = HasRoomFrom cuts_from run o left offs insertions actions
 
+-- and within one
 abbrev pub HasRoomWithin : Run → Outcome → (left offs insertions actions : ℕ) → Type 0
 HasRoomWithin run o left offs insertions actions = HasRoomFrom cuts_within run o left offs insertions actions
 

@@ -105,6 +105,7 @@ abbrev pub InSecondRingedBy : (lit : Bool) → Origin → List TraceSecond → T
 InSecondRingedBy true o done s n run out d = WithinRinged o done s n run out d
 InSecondRingedBy false o done s n run out d = CutRinged o done s run out d
 
+-- with power, or cut, as the run has it
 abbrev pub InSecondRinged : Origin → List TraceSecond → TraceSecond → (n : ℕ) → Run → Outcome → Devices → Type 0
 InSecondRinged o done s n run out d = InSecondRingedBy (is_lit run.power) o done s n run out d
 

@@ -72,6 +72,7 @@ pub record Stay : Type 0 where
   -- the lines by which its card was turned away since the stay before
   pub turned : List Find
 
+-- its withdrawal as a deed, if it was withdrawn
 abbrev pub closes : Option Shut → List Deed
 closes None = []
 closes (Some x) = Close x.word ∷ []
@@ -86,21 +87,23 @@ pub record Shown : Type 0 where
   pub book : Book
   pub held : CurrentUse
 
--- the session time that a stay leaves: its second; 0 where it was closed; and the use, of the vehicle
+-- the session time that a stay leaves: its second; 0 where it was closed
 abbrev pub open_from : (second : ℕ) → Option Shut → ℕ
 open_from u None = u
 open_from u (Some x) = 0
 
+-- and the current use that it leaves, of the vehicle
 abbrev pub use_after : Registration → Stay → CurrentUse
 use_after vehicle s = record { session = record { 0 = open_from s.found.second s.closed }; registration = vehicle }
 
--- behind a stay, and behind some
+-- what a card shows behind a stay
 abbrev pub after_stay : Registration → (size : ℕ) → Stay → Shown → Shown
 after_stay vehicle size s p = record {
   book = made_by size (deeds_of vehicle (is_open_in p.held) p.book s) p.book;
   held = use_after vehicle s;
 }
 
+-- and behind some, one after another
 abbrev pub after_stays : Registration → (size : ℕ) → List Stay → Shown → Shown
 after_stays vehicle size [] p = p
 after_stays vehicle size (s ∷ ss) p = after_stays vehicle size ss (after_stay vehicle size s p)
@@ -168,7 +171,7 @@ AreMerged {L} (f ∷ lines) one other =
     ((rest : List L) × (one ≡ f ∷ rest) × AreMerged lines rest other)
     ⊎ ((rest : List L) × (other ≡ f ∷ rest) × AreMerged lines one rest)
 
--- the spell of a stay, and those of some
+-- the spell of a stay
 abbrev pub stay_spell : Stay → Spell
 stay_spell s = record {
   second = s.found.second;
@@ -176,6 +179,7 @@ stay_spell s = record {
   withdrawn = option_map {T = Shut} (λ (x : Shut). x.second) s.closed;
 }
 
+-- and those of some
 abbrev pub spells : List Stay → List Spell
 spells ss = map stay_spell ss
 
@@ -254,10 +258,11 @@ comings_of vehicle size (s ∷ ss) p = record { found = s.found; before = p.book
 abbrev pub comings_on : Registration → (image : List ℕ) → List Stay → List Coming
 comings_on vehicle image ss = comings_of vehicle (own_sizes image).activity ss (start_shown image)
 
--- the lines of some, and the vehicles before
+-- the lines of some
 abbrev pub lines_of : List Coming → List Find
 lines_of cs = map (λ (c : Coming). c.found) cs
 
+-- and the vehicles that the cards had before
 abbrev pub befores_of : List Coming → List VehicleTold
 befores_of cs = map (λ (c : Coming). told_of c.before) cs
 
@@ -286,6 +291,7 @@ pub record GoesIn (vehicle : Registration) (stays : List Stay) (a : Accepted) : 
   pub held : a.held.entries ≡ holds_after stay.by_hand stay.kepts
   pub free : a.held.begun ≡ None → stay.kepts ≡ []
 
+-- so it is of a card with a session; of one without nothing is said
 abbrev pub StaysIn : Registration → List Stay → Option Accepted → Type 0
 StaysIn vehicle stays None = Unit {0}
 StaysIn vehicle stays (Some a) = GoesIn vehicle stays a

@@ -167,6 +167,7 @@ HasStood o done log c d = (s : StandsStill (recording_by o done log) c (found_of
     (o.breakdowns (device_of c)) (card_of d c))
     × HasFailedOnBy (recording_by o done log) c (o.breakdowns (device_of c)) s.0.rest
 
+-- so each card that was valid at the start has stood; or no call has failed, or none on it and on the unit
 abbrev pub HaveStoodBehind : Origin → List TraceSecond → RunLog → Devices → Type 0
 HaveStoodBehind o done log d = (c : Card) → IsOwnValid (card_image o.recording c)
     → IsCalm o log c d ⊎ HasStood o done log c d

@@ -61,6 +61,7 @@ pub record Past : Type 0 where
   pub seconds : List TraceSecond
   pub spans : List (List ToldSecond)
 
+-- the past of a run, by its log and its seconds
 abbrev pub past_of : RunLog → List TraceSecond → Past
 past_of log done = record { seconds = done; spans = spans_of (went log done).told }
 
@@ -78,13 +79,14 @@ pub record Rides (spans : List (List ToldSecond)) (second : ℕ) : Type 0 where
 abbrev pub driven_in : List ToldSecond → ℕ
 driven_in span = sum_by (λ (s : Second). s.speed) (seconds_in span)
 
--- THE ODOMETER as a second with power begins, and as it ends: the start's, with the whole kilometres of each power span
--- before, and of this one so far
+-- THE ODOMETER as a second with power begins: the start's, with the whole kilometres of each power span before, and of
+-- this one so far
 pub record IsOdometerBefore (rule : Rule) (start : ℕ) (spans : List (List ToldSecond)) (second odometer : ℕ) : Type
     0 where
   pub at : Rides spans second
   pub is : odometer ≡ odometer_after start (whole_legs rule at.earlier ++ driven_in at.span ∷ [])
 
+-- and as it ends: with what was driven in it
 pub record IsOdometerBehind (rule : Rule) (start : ℕ) (spans : List (List ToldSecond)) (second odometer : ℕ) : Type
     0 where
   pub at : Rides spans second
@@ -145,6 +147,7 @@ SpansGoOn spans now = (u : ℕ) (r : Rides spans u) →
     × (now ≡ r.earlier ++ (r.span ++ x ∷ behind) ∷ later) × (x.second.number ≡ r.t.second.number)
     × (x.second.speed ≡ r.t.second.speed)
 
+-- A PAST GOES ON IN ANOTHER: it has its seconds, and each of its power spans goes on there.
 pub record PastGoesOn (p q : Past) : Type 0 where
   pub seconds : (s : TraceSecond) → Contains p.seconds s → Contains q.seconds s
   pub spans : SpansGoOn p.spans q.spans

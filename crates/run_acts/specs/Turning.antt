@@ -33,11 +33,12 @@ pub record IsKeptInTurn (decided : List Minute) (n speed : ℕ) (at : Moment) (f
       ⊎ (AreKept at decided (told_of old before) (told_of new after)
       × ((ended : Ended) × IsFed old.watch new.watch old.next n speed (crew_of old.keeper.cabin) ended))
 
--- the run and the outcome behind a turn that failed: power was lost in its last second
+-- the run behind a turn: where it failed, power was lost in its last second
 abbrev pub cut_where : (failed : Bool) → (second : ℕ) → Run → Run
 cut_where false second run = run
 cut_where true second run = cut_run second run
 
+-- and the line of that cut
 abbrev pub cut_breaks : (failed : Bool) → (second begun : ℕ) → Outcome → Outcome
 cut_breaks false second begun o = o
 cut_breaks true second begun o = record o { breaks = with_lines (cut_at second true begun ∷ []) o.breaks }

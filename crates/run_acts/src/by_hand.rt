@@ -7,20 +7,22 @@ ghost use Rattle.run_crew.specs.Cards.{session_of};
 ghost use Rattle.run_crew.specs.Cabin.{CabinIsSound};
 ghost use Rattle.run_acts.specs.ByHand.{stop_in, stop_of, cards_holding, entered_run};
 ghost use Rattle.run_record.specs.Within.{stop_told};
+ghost use Rattle.hand_model.specs.declared.held.TheConstants.{MOST};
 
 use crate::run::Run;
-use activity_codec::{DAY_MINUTES, Manual, Pick, Slot};
+use activity_codec::{DAY_MINUTES, DAY_SECONDS, Manual, Pick, Slot};
 use hand_model::EnterFault;
 use log_model::SlotFault;
 use run_crew::Cards;
 use trace_model::Card;
 
-/// The seconds of a day.
-const DAY_SECONDS: u32 = 86400;
-
-/// Whether the session of the slot's card takes an entry by hand from this minute of the day on: `Begun` where it has
-/// kept a minute, else `NotFree` where the minute is not later than its newest one or not before its insertion, else
-/// `Full`.
+/// Whether the session of the slot's card takes an entry by hand from this minute of the day on (0 to 1439). A slot
+/// without a card, and a card without a session, stop none.
+///
+/// # Errors
+///
+/// `Begun` where the session has kept a minute, with the first such; else `NotFree` where the minute is not later than
+/// the card's newest one or not before the insertion, with both; else `Full` where it holds eight.
 pub fn may_enter(run: &Run, slot: Slot, minute: u16) -> Result<(), SlotFault>
     ensures { result_err result ≡ stop_of slot minute run.now }
 {
@@ -30,7 +32,7 @@ pub fn may_enter(run: &Run, slot: Slot, minute: u16) -> Result<(), SlotFault>
     may_hold(&run.keeper.cabin.cards, card, minute_of(run, minute))
 }
 
-// Whether the session of a card, if it has one, takes an entry by hand of this minute.
+/// Whether the session of a card, if it has one, takes an entry by hand of this minute.
 fn may_hold(cards: &Cards, card: Card, minute: u32) -> Result<(), SlotFault>
     ensures { result_err result ≡ stop_in (session_of cards.now card) minute }
 {
@@ -62,9 +64,9 @@ pub fn enter(run: &mut Run, slot: Slot, pick: Pick, minute: u16)
     hold(&mut run.keeper.cabin.cards, card, &entry);
 }
 
-// The session of a card, if it has one, holds one entry by hand more.
+/// The session of a card, if it has one, holds one entry by hand more.
 fn hold(cards: &mut Cards, card: Card, entry: &Manual)
-    requires room { IfSome (session_of cards.old card) (λ a. length a.held.entries < 8) }
+    requires room { IfSome (session_of cards.old card) (λ a. length a.held.entries < MOST) }
     ensures { cards.new ≡ cards_holding entry.now card cards.old }
 {
     let Some(mut accepted) = cards.take(card) else {
@@ -74,11 +76,11 @@ fn hold(cards: &mut Cards, card: Card, entry: &Manual)
     cards.set_session(card, Some(accepted));
 }
 
-// The number of a minute of the day of the next second.
+/// The number of a minute of the day of the next second.
 fn minute_of(run: &Run, minute: u16) -> u32
     ensures { result ≡ minute_on run.now.next minute }
 {
-    run.next / DAY_SECONDS * u32::from(DAY_MINUTES) + u32::from(minute)
+    run.next / DAY_SECONDS * DAY_MINUTES + u32::from(minute)
 }
 
 fn stop(fault: EnterFault) -> SlotFault

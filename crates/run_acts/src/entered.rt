@@ -1,3 +1,4 @@
+//! A card that enters is recorded. A law.
 ghost use Rattle.run_acts.specs.Entered.{ACardThatEntersIsRecorded};
 
 use tach_media::{Chip, Medium};

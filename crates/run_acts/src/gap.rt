@@ -8,6 +8,7 @@ ghost use Rattle.run_acts.specs.Room.{falls_of};
 ghost use Rattle.run_acts.specs.Noting.{IsNoteRecorded};
 ghost use Rattle.run_acts.specs.Acts.{AllGoOn, LeavesGap, LeavesIn, NotesGap, NotesIn, RunStandsBehind};
 ghost use Rattle.run_acts.specs.Acts.{NotesGapOn, PromisesGap, IsPowerGap, MayNoteOn};
+ghost use Rattle.run_acts.specs.Writes.{gap_unit_most, gap_card_most, slot_gap_unit_most, slot_gap_card_most};
 
 use crate::run::Run;
 use activity_codec::Slot;
@@ -20,7 +21,7 @@ use tach_media::{Chip, Failed, Medium};
 use trace_model::Card;
 use unit_notes::{UnitEvent, UnitNotes};
 
-// An interruption that is noted on the card of a slot.
+/// An interruption that is noted on the card of a slot.
 #[derive(Clone, Copy)]
 struct SlotEvent {
     slot: Slot,
@@ -57,7 +58,7 @@ pub fn note_gap<M: Medium, C: Chip, D: Chip>(
         (devices (M.state unit.old) (C.state card_a.old) (D.state card_b.old))
         (devices (M.state unit.new) (C.state card_a.new) (D.state card_b.new))
         (C.card card_a.new) (D.card card_b.new) }
-    ensures goes { AllGoOn 12 8 breaks.old.items breaks.new.items
+    ensures goes { AllGoOn gap_unit_most gap_card_most breaks.old.items breaks.new.items
         (devices (M.state unit.old) (C.state card_a.old) (D.state card_b.old))
         (devices (M.state unit.new) (C.state card_a.new) (D.state card_b.new)) }
 {
@@ -78,7 +79,7 @@ pub fn note_gap<M: Medium, C: Chip, D: Chip>(
     note_in(run, codriver, unit, card_a, card_b, breaks)
 }
 
-// An interruption is noted on the card of a slot, where it is accepted.
+/// An interruption is noted on the card of a slot, where it is accepted.
 fn note_in<M: Medium, C: Chip, D: Chip>(
     run: &mut Run,
     gap: SlotEvent,
@@ -102,7 +103,7 @@ fn note_in<M: Medium, C: Chip, D: Chip>(
         (devices (M.state unit.old) (C.state card_a.old) (D.state card_b.old))
         (devices (M.state unit.new) (C.state card_a.new) (D.state card_b.new))
         (C.card card_a.new) (D.card card_b.new) }
-    ensures goes { AllGoOn 4 4 breaks.old.items breaks.new.items
+    ensures goes { AllGoOn slot_gap_unit_most slot_gap_card_most breaks.old.items breaks.new.items
         (devices (M.state unit.old) (C.state card_a.old) (D.state card_b.old))
         (devices (M.state unit.new) (C.state card_a.new) (D.state card_b.new)) }
 {
@@ -118,7 +119,7 @@ fn note_in<M: Medium, C: Chip, D: Chip>(
     }
 }
 
-// An interruption is noted on an accepted card, which is torn out where that fails.
+/// An interruption is noted on an accepted card, which is torn out where that fails.
 fn note_on<M: Medium, C: Chip>(
     run: &mut Run,
     which: Card,

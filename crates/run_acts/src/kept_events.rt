@@ -1,3 +1,4 @@
+//! What a keeping notes, and whom it names. Laws.
 ghost use Rattle.run_minutes.specs.declared.keeper.Keeper.{Keeper};
 ghost use Rattle.run_minutes.specs.declared.keeper.Moment.{Moment};
 ghost use Rattle.run_minutes.specs.Minutes.{Reach, KeepingState};

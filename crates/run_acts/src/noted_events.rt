@@ -1,3 +1,4 @@
+//! What two calls note, one after another. A law.
 ghost use Rattle.std.specs.Prelude.{ℕ, List, ◌++◌};
 ghost use Rattle.trace_model.specs.declared.Card.{Card};
 ghost use Rattle.unit_notes.specs.event_model.Events.{Event};

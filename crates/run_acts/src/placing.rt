@@ -10,6 +10,7 @@ ghost use Rattle.run_acts.specs.Going.{IsActing};
 ghost use Rattle.run_acts.specs.Room.{falls_of};
 ghost use Rattle.run_acts.specs.Acts.{AllGoOn, LeavesPlaced, NotesPlaceOn, PlacesSo, PromisesPlace, RunStandsBehind};
 ghost use Rattle.run_acts.specs.Acts.{MayNoteOn};
+ghost use Rattle.run_acts.specs.Writes.{place_unit_most, place_card_most};
 
 use crate::run::Run;
 use activity_codec::Slot;
@@ -81,7 +82,7 @@ pub fn note_place<M: Medium, C: Chip, D: Chip>(
         (devices (M.state unit.old) (C.state card_a.old) (D.state card_b.old))
         (devices (M.state unit.new) (C.state card_a.new) (D.state card_b.new))
         (C.card card_a.new) (D.card card_b.new) }
-    ensures goes { AllGoOn 9 5 breaks.old.items breaks.new.items
+    ensures goes { AllGoOn place_unit_most place_card_most breaks.old.items breaks.new.items
         (devices (M.state unit.old) (C.state card_a.old) (D.state card_b.old))
         (devices (M.state unit.new) (C.state card_a.new) (D.state card_b.new)) }
 {
@@ -98,7 +99,7 @@ pub fn note_place<M: Medium, C: Chip, D: Chip>(
     }
 }
 
-// The same on the card, which is torn out where that fails.
+/// The same on the card, which is torn out where that fails.
 fn note_place_in<M: Medium, C: Chip>(
     run: &mut Run,
     which: Card,

@@ -8,6 +8,7 @@ ghost use Rattle.run_outcome.specs.Lines.{cut_at, found_from};
 ghost use Rattle.run_minutes.specs.Keeping.{with_lines};
 
 use crate::run::{Power, Run};
+use activity_codec::MINUTE_SECONDS;
 use log_model::Break;
 use minute_rules::{Minutes, Rule};
 use run_events::Watch;
@@ -59,13 +60,14 @@ impl Run {
         self.begun = 0;
     }
 
-    /// Whether the next second has power, where the trace gives it power.
+    /// Whether the next second has power, where the trace gives it power: the unit has it now (`is_lit`), or power
+    /// comes back with that second.
     pub fn has_power(&self) -> bool
         ensures { result ≡ has_power self.now.power self.now.next }
     {
         match self.power {
             Power::Lit | Power::Due => true,
-            Power::Lost => self.next % 60 == 0,
+            Power::Lost => self.next % MINUTE_SECONDS == 0,
         }
     }
 
@@ -78,8 +80,8 @@ impl Run {
             → KnowsEnded from ((self.old.next - 1) / 60) self.old.keeper.cabin.slots
             → KnowsEnded from (self.old.next / 60) self.new.keeper.cabin.slots }
     {
-        if self.next % 60 == 0 {
-            self.keeper.cabin.end_minute(self.next / 60 - 1);
+        if self.next % MINUTE_SECONDS == 0 {
+            self.keeper.cabin.end_minute(self.next / MINUTE_SECONDS - 1);
         }
     }
 

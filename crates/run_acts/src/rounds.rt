@@ -1,3 +1,4 @@
+//! The keeping of minutes in a second of a run: that they may be booked, are kept, or fail. Laws.
 ghost use Rattle.run_minutes.specs.run_promise.Between.{devices};
 ghost use Rattle.run_acts.specs.RoundLaws.{TheMinutesMayBeBooked, TheMinutesAreOver, TheMinutesAreKept, TheyLeaveStill};
 ghost use Rattle.run_acts.specs.RoundLaws.{TheKeepingFails, TheNoteFails, TheKeepingIsRecorded};

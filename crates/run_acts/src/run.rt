@@ -18,7 +18,7 @@ use run_opening::Opened;
 use run_outcome::Lines;
 use tacho_types::Odometer;
 
-/// Whether the unit has power.
+/// Whether the unit has power, or when it has it again.
 #[derive(Clone, Copy, Debug, PartialEq, Eq)]
 pub enum Power {
     /// It has power.
@@ -91,7 +91,7 @@ impl Run {
         }
     }
 
-    /// Whether the unit has power.
+    /// Whether the unit has power now. (Whether it has it in the next second: `has_power`.)
     pub fn is_lit(&self) -> bool
         ensures { result ≡ is_lit self.now.power }
     {
@@ -133,11 +133,11 @@ impl Run {
     }
 
     /// So many seconds are over, the last of which had so many actions.
-    pub fn pass(&mut self, n: u32, begun: u32)
-        requires { self.old.next + n ≤ largest_number }
-        ensures { self.new ≡ passed n begun self.old }
+    pub fn pass(&mut self, seconds: u32, begun: u32)
+        requires { self.old.next + seconds ≤ largest_number }
+        ensures { self.new ≡ passed seconds begun self.old }
     {
-        self.next += n;
+        self.next += seconds;
         self.begun = begun;
     }
 }

@@ -1,17 +1,17 @@
 //! Seconds of one minute at one speed.
-ghost use Rattle.std.specs.Prelude.{◌≡◌, ℕ, ◌+◌, ◌*◌, false, length, is_err};
+ghost use Rattle.std.specs.Prelude.{◌≡◌, ◌+◌, ◌*◌, false, length, is_err};
 ghost use Rattle.run_minutes.specs.Writes.{WroteAtMost, minute_most, minute_unit_most};
+ghost use Rattle.run_events.specs.Writes.{watch_most};
 ghost use Rattle.run_minutes.specs.Keeping.{DevicesMayBeCalled};
 ghost use Rattle.run_acts.specs.declared.run.Power.TheVariants.{Lit};
 ghost use Rattle.run_acts.specs.Power.{is_lit, passed};
-ghost use Rattle.run_acts.specs.Going.{IsInsideSecond, IsBetweenSeconds, IsStretch};
-ghost use Rattle.run_acts.specs.Room.{HasRoom, HasRoomWithin};
-ghost use Rattle.run_acts.specs.Evented.{EventsTurn};
+ghost use Rattle.run_acts.specs.Going.{IsInsideSecond, IsStretch};
+ghost use Rattle.run_acts.specs.Room.{HasRoomWithin};
 ghost use Rattle.run_minutes.specs.run_promise.Between.{devices};
 ghost use Rattle.run_minutes.specs.Kept.{MayKeepAll};
 ghost use Rattle.run_minutes.specs.Stand.{StandsAfter, KeepingGoes, AreBare};
 ghost use Rattle.run_acts.specs.Keepings.{acting, MayWatch, KeepsTurn};
-ghost use Rattle.run_acts.specs.Acts.{LeavesLit, LeavesTurned, LitTurns, PromisesTurn, TurnGoes, Turns};
+ghost use Rattle.run_acts.specs.Acts.{LeavesLit, LeavesTurned, LitTurns, PromisesTurn, StandsTurned, TurnGoes, Turns};
 ghost use Rattle.run_acts.specs.Writes.{turn_unit_most, settle_card_most};
 
 use crate::feeding::feed;
@@ -22,11 +22,14 @@ use run_minutes::{MinutesDecided, Moment};
 use run_outcome::Outcome;
 use tach_media::{Chip, Failed, Medium};
 
-/// So many seconds of one minute at one speed in km/h, the last of which has so many actions.
+/// Seconds of one minute, one after another, at one speed.
 #[derive(Clone, Copy)]
 pub struct Stretch {
-    pub n: u32,
+    /// From 1 to 60.
+    pub seconds: u32,
+    /// In km/h.
     pub speed: u8,
+    /// How many actions the last of them has.
     pub begun: u32,
 }
 
@@ -41,40 +44,34 @@ pub fn turn<M: Medium, C: Chip, D: Chip>(
 )
     requires going { IsInsideSecond run.old (M.state unit.old) (C.card card_a.old) (D.card card_b.old)
         (C.state card_a.old) (D.state card_b.old) }
-    requires stretch { IsStretch stretch.n run.old.next }
-    requires room { HasRoomWithin run.old outcome.old stretch.n 0 0 0 }
-    ensures turned { Turns stretch.n stretch.speed stretch.begun run.old run.new outcome.old outcome.new }
-    ensures leaves { LeavesTurned stretch.n stretch.speed stretch.begun run.old run.new outcome.old outcome.new
+    requires stretch { IsStretch stretch.seconds run.old.next }
+    requires room { HasRoomWithin run.old outcome.old stretch.seconds 0 0 0 }
+    ensures turned { Turns stretch.seconds stretch.speed stretch.begun run.old run.new outcome.old outcome.new }
+    ensures leaves { LeavesTurned stretch.seconds stretch.speed stretch.begun run.old run.new outcome.old outcome.new
         (devices (M.state unit.old) (C.state card_a.old) (D.state card_b.old))
         (devices (M.state unit.new) (C.state card_a.new) (D.state card_b.new)) }
-    // And what the seconds bring of events is noted.
-    ensures evented { EventsTurn stretch.n stretch.speed stretch.begun run.old run.new outcome.old outcome.new
-        (devices (M.state unit.old) (C.state card_a.old) (D.state card_b.old))
-        (devices (M.state unit.new) (C.state card_a.new) (D.state card_b.new)) }
-    // What a run promises goes on with them.
-    ensures promises { PromisesTurn stretch.n stretch.speed stretch.begun run.old run.new outcome.old outcome.new
+    // What a run promises goes on with them, and what they bring of events is noted.
+    ensures promises { PromisesTurn stretch.seconds stretch.speed stretch.begun run.old run.new outcome.old
+        outcome.new
         (devices (M.state unit.old) (C.state card_a.old) (D.state card_b.old))
         (devices (M.state unit.new) (C.state card_a.new) (D.state card_b.new)) }
     ensures dark { is_lit run.old.power ≡ false
         → (unit.new ≡ unit.old) × (card_a.new ≡ card_a.old) × (card_b.new ≡ card_b.old) }
-    ensures going { IsBetweenSeconds run.new (M.state unit.new) (C.card card_a.new) (D.card card_b.new)
-        (C.state card_a.new) (D.state card_b.new) }
-    ensures room { (left offs insertions actions : ℕ)
-        → HasRoomWithin run.old outcome.old (stretch.n + left) offs insertions actions
-        → HasRoom run.new outcome.new left offs insertions actions }
+    ensures behind { StandsTurned stretch.seconds run.old run.new outcome.old outcome.new (M.state unit.new)
+        (C.card card_a.new) (D.card card_b.new) (C.state card_a.new) (D.state card_b.new) }
     ensures goes { TurnGoes turn_unit_most settle_card_most outcome.old.breaks.items outcome.new.breaks.items
         (devices (M.state unit.old) (C.state card_a.old) (D.state card_b.old))
         (devices (M.state unit.new) (C.state card_a.new) (D.state card_b.new)) }
 {
     if !run.is_lit() {
-        run.pass(stretch.n, stretch.begun);
+        run.pass(stretch.seconds, stretch.begun);
         return;
     }
     lit_turn(run, stretch, unit, card_a, card_b, outcome);
-    run.pass(stretch.n, stretch.begun);
+    run.pass(stretch.seconds, stretch.begun);
 }
 
-// The same with power. Where the keeping fails, or a note, the power is lost in the last of the seconds.
+/// The same with power. Where the keeping fails, or a note, the power is lost in the last of the seconds.
 fn lit_turn<M: Medium, C: Chip, D: Chip>(
     run: &mut Run,
     stretch: Stretch,
@@ -86,25 +83,22 @@ fn lit_turn<M: Medium, C: Chip, D: Chip>(
     requires lit { run.old.power ≡ Lit }
     requires going { IsInsideSecond run.old (M.state unit.old) (C.card card_a.old) (D.card card_b.old)
         (C.state card_a.old) (D.state card_b.old) }
-    requires stretch { IsStretch stretch.n run.old.next }
-    requires room { HasRoomWithin run.old outcome.old stretch.n 0 0 0 }
-    ensures turned { LitTurns stretch.n stretch.speed stretch.begun run.old run.new outcome.old outcome.new }
-    ensures leaves { LeavesLit stretch.n stretch.speed stretch.begun run.old run.new outcome.old outcome.new
+    requires stretch { IsStretch stretch.seconds run.old.next }
+    requires room { HasRoomWithin run.old outcome.old stretch.seconds 0 0 0 }
+    ensures turned { LitTurns stretch.seconds stretch.speed stretch.begun run.old run.new outcome.old outcome.new }
+    ensures leaves { LeavesLit stretch.seconds stretch.speed stretch.begun run.old run.new outcome.old outcome.new
         (devices (M.state unit.old) (C.state card_a.old) (D.state card_b.old))
         (devices (M.state unit.new) (C.state card_a.new) (D.state card_b.new)) }
-    ensures going { IsBetweenSeconds (passed stretch.n stretch.begun run.new) (M.state unit.new) (C.card card_a.new)
-        (D.card card_b.new)
-        (C.state card_a.new) (D.state card_b.new) }
-    ensures room { (left offs insertions actions : ℕ)
-        → HasRoomWithin run.old outcome.old (stretch.n + left) offs insertions actions
-        → HasRoom (passed stretch.n stretch.begun run.new) outcome.new left offs insertions actions }
+    ensures behind { StandsTurned stretch.seconds run.old (passed stretch.seconds stretch.begun run.new) outcome.old
+        outcome.new (M.state unit.new)
+        (C.card card_a.new) (D.card card_b.new) (C.state card_a.new) (D.state card_b.new) }
     ensures goes { TurnGoes turn_unit_most settle_card_most outcome.old.breaks.items outcome.new.breaks.items
         (devices (M.state unit.old) (C.state card_a.old) (D.state card_b.old))
         (devices (M.state unit.new) (C.state card_a.new) (D.state card_b.new)) }
 {
-    let decided = feed(&mut run.minutes, stretch.n, stretch.speed);
+    let decided = feed(&mut run.minutes, stretch.seconds, stretch.speed);
     let at = Moment {
-        second: run.next + stretch.n - 1,
+        second: run.next + stretch.seconds - 1,
         begun: stretch.begun,
         late: true,
     };
@@ -119,7 +113,7 @@ fn lit_turn<M: Medium, C: Chip, D: Chip>(
     }
 }
 
-// Minutes that a stretch of seconds has decided, and the moment of their keeping.
+/// Minutes that a stretch of seconds has decided, and the moment of their keeping.
 #[derive(Clone, Copy)]
 struct StretchDecided<D> {
     decided: D,
@@ -127,8 +121,8 @@ struct StretchDecided<D> {
     at: Moment,
 }
 
-// Keeps the minutes that so many seconds have decided, and then notes what has ended with the second before them:
-// nothing has unless they are one.
+/// Keeps the minutes that so many seconds have decided, and then notes what has ended with the second before them:
+/// nothing has unless they are one.
 fn keep_turn<M: Medium, C: Chip, D: Chip>(
     run: &mut Run,
     turned: StretchDecided<&[Minute]>,
@@ -142,9 +136,9 @@ fn keep_turn<M: Medium, C: Chip, D: Chip>(
     requires may { MayKeepAll turned.decided.now turned.at
         (acting run.old outcome.old (M.state unit.old) (C.state card_a.old) (D.state card_b.old) (C.card card_a.old)
         (D.card card_b.old)) }
-    requires watch { MayWatch turned.stretch.n run.old (M.state unit.old) }
-    ensures kept { KeepsTurn turned.entry.decided.now turned.entry.stretch.n turned.entry.stretch.speed turned.entry.at
-        (is_err result) run.old run.new outcome.old outcome.new
+    requires watch { MayWatch turned.stretch.seconds run.old (M.state unit.old) }
+    ensures kept { KeepsTurn turned.entry.decided.now turned.entry.stretch.seconds turned.entry.stretch.speed
+        turned.entry.at (is_err result) run.old run.new outcome.old outcome.new
         (devices (M.state unit.old) (C.state card_a.old) (D.state card_b.old))
         (devices (M.state unit.new) (C.state card_a.new) (D.state card_b.new)) }
     ensures stands { StandsAfter turned.entry.at (is_err result)
@@ -157,7 +151,7 @@ fn keep_turn<M: Medium, C: Chip, D: Chip>(
         (D.card card_b.old))
         (acting run.new outcome.new (M.state unit.new) (C.state card_a.new) (D.state card_b.new) (C.card card_a.new)
         (D.card card_b.new)) }
-    ensures most { WroteAtMost (minute_unit_most * length turned.entry.decided.now + 15)
+    ensures most { WroteAtMost (minute_unit_most * length turned.entry.decided.now + watch_most)
         (minute_most * length turned.entry.decided.now)
         (devices (M.state unit.old) (C.state card_a.old) (D.state card_b.old))
         (devices (M.state unit.new) (C.state card_a.new) (D.state card_b.new)) }
@@ -172,7 +166,7 @@ fn keep_turn<M: Medium, C: Chip, D: Chip>(
     let first = run.next;
     let seconds = Seconds {
         first,
-        n: turned.stretch.n,
+        count: turned.stretch.seconds,
         speed: turned.stretch.speed,
     };
     run.watch.turn(&run.keeper.memory, seconds, crew, unit)

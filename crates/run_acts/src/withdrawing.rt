@@ -97,8 +97,8 @@ pub fn withdraw<M: Medium, C: Chip, D: Chip>(
     }
 }
 
-// The session of a card that was taken out of a slot is closed, if it has one: it is handed out without a write where
-// it was not accepted, and where it was torn out by then.
+/// The session of a card that was taken out of a slot is closed, if it has one: it is handed out without a write where
+/// it was not accepted, and where it was torn out by then.
 fn close<M: Medium, C: Chip>(
     run: &mut Run,
     which: Card,
@@ -130,7 +130,7 @@ fn close<M: Medium, C: Chip>(
     }
 }
 
-// A withdrawal is noted in the entry of its insertion, unless that has made room for another.
+/// A withdrawal is noted in the entry of its insertion, unless that has made room for another.
 fn note_withdrawal<M: Medium>(
     run: &Run,
     entry: u32,

@@ -1,3 +1,4 @@
+//! A run begins with what another has left: laws.
 ghost use Rattle.std.specs.Prelude.{List};
 ghost use Rattle.log_model.specs.declared.lines.Mark.{Mark};
 ghost use Rattle.safety_model.specs.Recording.{Recording};

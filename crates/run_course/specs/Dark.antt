@@ -20,7 +20,7 @@ use Rattle.run_course.specs.Followed.{Progress, BookFollowsRun}
 use Rattle.run_course.specs.Presence.{SlotsTell}
 use Rattle.run_course.specs.Caused.{WellCaused}
 
--- a second without power, and several of them
+-- a second without power as it is told, with these slots
 abbrev pub dark_told : TraceSecond → Slots → ToldSecond
 dark_told s slots = record {
   second = record { number = s.number; speed = s.speed; picks = [] };
@@ -31,6 +31,7 @@ dark_told s slots = record {
   course = dark_course s slots;
 }
 
+-- several such seconds, one after another
 abbrev pub all_dark : List TraceSecond → Slots → List ToldSecond
 all_dark ss slots = map (λ s. dark_told s slots) ss
 
@@ -61,7 +62,7 @@ ADarkMinuteIsCaused = (rule : Rule) (start : Start) (from first : ℕ) (done : L
     → q.log ≡ record p.log { refused = p.log.refused ++ refused } →
     WellCaused before now (done ++ driven (suc n) p.next speed actions) q
 
--- WHAT IS DECIDED is acknowledged as before.
+-- WHAT IS DECIDED is acknowledged as before, behind the seconds up to a minute's end after a failed call,
 abbrev pub ADarkMinuteStaysComplete : Type 0
 ADarkMinuteStaysComplete = (rule : Rule) (start : Start) (from first : ℕ) (done : List TraceSecond) (p : Progress)
     → BookFollowsRun rule start from first done p →
@@ -71,6 +72,7 @@ ADarkMinuteStaysComplete = (rule : Rule) (start : Start) (from first : ℕ) (don
     let later : RunLog = record p.log { refused = refused } in
     IsComplete rule start later (went later (done ++ driven n p.next speed actions)).told marks
 
+-- and behind those of an `off` line.
 abbrev pub OffSecondsStayComplete : Type 0
 OffSecondsStayComplete = (rule : Rule) (start : Start) (from : ℕ) (log : RunLog) (done : List TraceSecond) (n next : ℕ)
     (marks : List Mark) →

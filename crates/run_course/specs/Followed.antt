@@ -38,24 +38,26 @@ pub record Comes (before : Before) (next : ℕ) : Type 0 where
   pub running : before.running ≡ false
   pub comes : has_power before (record { number = next; has_power = true; speed = 0; actions = [] }) ≡ true
 
--- the seconds so far went so that the unit's power is this, whatever the slots hold
+-- the last second had power and kept it, and the trace gave it that
 pub record PowerGoesOn (before : Before) : Type 0 where
   pub running : before.running ≡ true
   pub gone : before.gone ≡ false
   pub given : before.given ≡ true
 
+-- power is gone since a call failed, though the trace gave the last second power
 pub record IsLost (before : Before) : Type 0 where
   pub running : before.running ≡ false
   pub gone : before.gone ≡ true
   pub given : before.given ≡ true
 
+-- the seconds so far went so that the unit's power is this, whatever the slots hold
 abbrev pub IsSupplied : UnitPower → Before → ℕ → Type 0
 IsSupplied (Lit []) before next = Comes before next
 IsSupplied (Lit (t ∷ span)) before next = PowerGoesOn before
 IsSupplied Due before next = (n : ℕ) → Comes before n
 IsSupplied Lost before next = IsLost before
 
--- the last of these seconds had so many actions, and power
+-- the last of these seconds had so many actions, and the trace gave it power
 pub record HadActions (seconds : List TraceSecond) (begun : ℕ) : Type 0 where
   pub before : List TraceSecond
   pub number : ℕ
@@ -64,17 +66,20 @@ pub record HadActions (seconds : List TraceSecond) (begun : ℕ) : Type 0 where
   pub are : seconds ≡ before ++ record { number = number; has_power = true; speed = speed; actions = actions } ∷ []
   pub count : length actions ≡ begun
 
+-- where a span has begun, its last second had so many actions
 abbrev pub IsLastOf : UnitPower → List TraceSecond → ℕ → Type 0
 IsLastOf (Lit []) done begun = Unit {0}
 IsLastOf (Lit (t ∷ span)) done begun = HadActions done begun
 IsLastOf Due done begun = Unit {0}
 IsLastOf Lost done begun = Unit {0}
 
--- the lines of a log tell of seconds before a number: cuts before this one, tears and finds before the next
+-- a break is told of an earlier second: a cut of one before `cuts`, a tear of one before `next`
 abbrev pub IsBreakBefore : (cuts next : ℕ) → Break → Type 0
 IsBreakBefore cuts next (Cut second kept failed begun) = second < cuts
 IsBreakBefore cuts next (Tear second slot failed begun late) = second < next
 
+-- the lines of a log tell of earlier seconds: its cuts of those before `cuts`, its tears and finds of those before
+-- `next`
 pub record AreBefore (cuts next : ℕ) (log : RunLog) : Type 0 where
   pub breaks : AllByRecursion (IsBreakBefore cuts next) log.breaks
   pub finds : AllByRecursion (λ (f : Find). f.second < next) log.finds
@@ -113,11 +118,14 @@ pub record IsOpen (rule : Rule) (start : Start) (log : RunLog) (found : List Bre
   pub begins : (rest : List HistoryMinute) × (b.sure ≡ closed_history rule start log told front ++ rest)
   pub lost : AreLost (closed_lost rule start log told front) b
 
+-- without power no minute waits, and what was kept after the last cut is known or not
 abbrev pub IsEnded : Rule → Start → RunLog → List Break → List ToldSecond → List (List ToldSecond) → Book
     → List HistoryMinute → Type 0
 IsEnded rule start log found told ended b waiting =
     (waiting ≡ []) × (IsShut rule start log found told ended [] b [] ⊎ IsOpen rule start log found told ended b)
 
+-- the book goes with the spans so far: with power it is known what was kept after each cut, without it that of the last
+-- cut may not be
 abbrev pub IsTied : Rule → Start → RunLog → List Break → List ToldSecond → List (List ToldSecond) → UnitPower → Book
     → List HistoryMinute → Type 0
 IsTied rule start log found told ended (Lit span) b waiting = IsShut rule start log found told ended span b waiting

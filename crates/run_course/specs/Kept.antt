@@ -31,7 +31,7 @@ abbrev pub settled_times : ℕ → Span → Span
 settled_times zero span = span
 settled_times (suc k) span = settled (settled_times k span)
 
--- as it is fed, or not yet
+-- a span that is fed with a second at this speed, or not yet
 abbrev pub fed_where : Option ℕ → Span → Span
 fed_where None span = span
 fed_where (Some speed) span = fed span speed
@@ -138,10 +138,12 @@ pub record StaysOut (old new : Course) : Type 0 where
   pub torn : (v : Visit) → Contains old.torn v → Contains new.torn v
   pub pulled : (v : Visit) → Contains old.pulled v → Contains new.pulled v
 
+-- WHERE NO MINUTE IS KEPT YET all kept ones are acknowledged;
 abbrev pub NothingIsMarkedYet : Type 0
 NothingIsMarkedYet = (marks : List Mark) (told : List ToldSecond) (c : Course) (number : ℕ)
     → AreMarkedSoFar marks told c number []
 
+-- they stay so behind further marks, and while no card comes back that was torn out or pulled out.
 abbrev pub MarksStay : Type 0
 MarksStay = (marks more : List Mark) (told : List ToldSecond) (c d : Course) (number : ℕ) (new : List HistoryMinute)
     → AreMarkedSoFar marks told c number new →
@@ -155,7 +157,7 @@ OneMoreIsMarked = (marks : List Mark) (told : List ToldSecond) (c : Course) (num
     → IsMarked marks (device_of card) i.minute ⊎ BrokenSince told c card (60 * (i.minute + 1)) number) →
     AreMarkedSoFar marks told c number (new ++ i ∷ [])
 
--- AT THE SECOND'S END that is all that is asked.
+-- AT THE SECOND'S END, where all that it decided is kept, nothing else is asked of acknowledgements.
 abbrev pub AllAreAcknowledged : Type 0
 AllAreAcknowledged = (marks : List Mark) (told : List ToldSecond) (t : ToldSecond) (number : ℕ)
     (new : List HistoryMinute) → t.second.number ≡ number → AreMarkedSoFar marks told t.course number new →

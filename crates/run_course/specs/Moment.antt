@@ -34,10 +34,11 @@ use Rattle.run_course.specs.Caused.{StandsBy}
 use Rattle.run_course.specs.Reached.{IsBehind, course_at, IsMoment, IsUpTo}
 use Rattle.run_course.specs.Lines.{times_of}
 
--- finds, as lines and as a course has them
+-- a find as its line tells it: the second, the moment, the slot, and what was found
 abbrev pub find_as : Find → ℕ × Phase × Slot × Verdict
 find_as f = (f.second, In f.begun, f.slot, f.verdict)
 
+-- a find as the course of a second tells it, in the same four
 abbrev pub found_at : ℕ → Visit × Verdict → ℕ × Phase × Slot × Verdict
 found_at u f = (u, f.0.phase, f.0.slot, f.1)
 

@@ -14,13 +14,15 @@ use Rattle.log_model.specs.Slots.{refusal}
 use Rattle.log_model.specs.Course.{Before, acted, answered}
 use Rattle.event_model.specs.Events.{course_by}
 
--- with one line more
+-- the log with one break more
 abbrev pub and_break : RunLog → Break → RunLog
 and_break log b = record log { breaks = log.breaks ++ b ∷ [] }
 
+-- the log with one find more
 abbrev pub and_find : RunLog → Find → RunLog
 and_find log f = record log { finds = log.finds ++ f ∷ [] }
 
+-- the log with one refusal more
 abbrev pub and_refused : RunLog → Refused → RunLog
 and_refused log r = record log { refused = log.refused ++ r ∷ [] }
 
@@ -36,6 +38,7 @@ pub record BreakSeen (log : RunLog) (b : Break) (u : ℕ) : Type 0 where
   pub found : (p : Phase) (slot : Slot) → found_in (and_break log b) u p slot ≡ found_in log u p slot
   pub kept : kept_by u b ≡ None → kept_after (and_break log b) u ≡ kept_after log u
 
+-- A BREAK MORE tells that of every second, and nothing else.
 abbrev pub ABreakMoreIsSeen : Type 0
 ABreakMoreIsSeen = (log : RunLog) (b : Break) (u : ℕ) → BreakSeen log b u
 
@@ -48,10 +51,11 @@ pub record FindSeen (log : RunLog) (f : Find) (u : ℕ) : Type 0 where
       ++ (if finds_here u p slot f then f.verdict ∷ [] else [])
   pub kept : kept_after (and_find log f) u ≡ kept_after log u
 
+-- A FIND MORE tells that of every second, and nothing else.
 abbrev pub AFindMoreIsSeen : Type 0
 AFindMoreIsSeen = (log : RunLog) (f : Find) (u : ℕ) → FindSeen log f u
 
--- a refusal more tells nothing of how a second went
+-- whatever refusals a log tells, how a second went is told by it as before
 pub record RefusalSeen (log : RunLog) (refused : List Refused) (u : ℕ) : Type 0 where
   pub cut : cut_in (record log { refused = refused }) u ≡ cut_in log u
   pub torn : (p : Phase) (slot : Slot)
@@ -59,6 +63,7 @@ pub record RefusalSeen (log : RunLog) (refused : List Refused) (u : ℕ) : Type 
   pub found : (p : Phase) (slot : Slot) → found_in (record log { refused = refused }) u p slot ≡ found_in log u p slot
   pub kept : kept_after (record log { refused = refused }) u ≡ kept_after log u
 
+-- REFUSALS change nothing of any second.
 abbrev pub ARefusalMoreIsNotSeen : Type 0
 ARefusalMoreIsNotSeen = (log : RunLog) (refused : List Refused) (u : ℕ) → RefusalSeen log refused u
 

@@ -59,8 +59,8 @@ has_left left told card m = list_any (same_card card) left
     || list_any (λ t. list_any (same_card card) t.course.left) (in_minute m told)
 
 -- At a moment of the second of this number, behind these seconds and with these slots and leavings in it: the slots
--- have the cards of the course, who left in the minute is known, and so is who was present in each minute before it
--- from one on, whatever minutes are kept from that one on.
+-- have the cards of the course, who left in the minute is known, and so is who was present in each earlier minute from
+-- `from` on, whatever minutes from `from` on are kept.
 pub record SlotsTell (start : Start) (told : List ToldSecond) (past : List HistoryMinute) (left : List Card)
     (number from : ℕ) (slots : Slots) (kept : Kept) : Type 0 where
   pub driver : SitsAs start past from kept kept.seats.driver slots.driver
@@ -83,12 +83,13 @@ pub record EndsWith (told : List ToldSecond) (number : ℕ) (slots : Slots) : Ty
   pub number_is : last.second.number ≡ number
   pub slots_are : last.course.slots ≡ slots
 
--- WHAT IS HAD OF IT: the slots refuse as the course does, and tell who is present as the history does.
+-- WHAT IS HAD OF IT: the slots refuse as the course does,
 abbrev pub SlotsAgree : Type 0
 SlotsAgree = (start : Start) (told : List ToldSecond) (past : List HistoryMinute) (left : List Card) (number from : ℕ)
     (slots : Slots) (k : Kept) →
     SlotsTell start told past left number from slots k → Agrees k.seats slots
 
+-- and tell of each ended minute that may still be kept who was present in it, as the history does.
 abbrev pub SlotsTellWhoIsPresent : Type 0
 SlotsTellWhoIsPresent = (start : Start) (told : List ToldSecond) (past : List HistoryMinute) (left : List Card)
     (number from : ℕ) (slots : Slots) (k : Kept) →

@@ -21,7 +21,7 @@ use Rattle.run_course.specs.Presence.{SlotsTell}
 use Rattle.run_course.specs.Caused.{WellCaused}
 use Rattle.run_course.specs.Travelled.{HasLegs}
 
--- a second with these slots, and n of them
+-- a second with power in which nothing happens, with these slots
 abbrev pub quiet_second : (number speed : ℕ) → Slots → ToldSecond
 quiet_second number speed slots = record {
   second = record { number = number; speed = speed; picks = [] };
@@ -32,6 +32,7 @@ quiet_second number speed slots = record {
   course = fresh false slots;
 }
 
+-- n such seconds one after another, from a number on, at one speed
 abbrev pub quiet_seconds : ℕ → (number speed : ℕ) → Slots → List ToldSecond
 quiet_seconds zero number speed slots = []
 quiet_seconds (suc n) number speed slots = quiet_second number speed slots ∷ quiet_seconds n (number + 1) speed slots
@@ -41,7 +42,7 @@ abbrev pub begun_after : ℕ → ℕ → ℕ
 begun_after zero begun = begun
 begun_after (suc n) begun = 0
 
--- a run behind n of them
+-- how far a run has gone behind n quiet seconds
 abbrev pub quiet_on : (n speed : ℕ) → List ToldSecond → Slots → Progress → Progress
 quiet_on n speed span slots p = record p {
   next = p.next + n;
@@ -49,7 +50,7 @@ quiet_on n speed span slots p = record p {
   supply = Lit (span ++ quiet_seconds n p.next speed slots);
 }
 
--- HOW THEY GO
+-- HOW QUIET SECONDS GO: each as such a second, and the next one has to know what it had to before them.
 abbrev pub QuietSecondsAreTold : Type 0
 QuietSecondsAreTold = (rule : Rule) (start : Start) (from first : ℕ) (done : List TraceSecond) (p : Progress)
     → BookFollowsRun rule start from first done p →
@@ -66,7 +67,7 @@ RulesSeeQuietSeconds = (rule : Rule) (start : Start) (from first : ℕ) (done : 
     → (n speed : ℕ) (slots : Slots) →
     as_span rule ((t ∷ span) ++ quiet_seconds n p.next speed slots) ≡ fed_many (as_span rule (t ∷ span)) speed n
 
--- THE RUN IS FOLLOWED behind them, with what was travelled, the causes of its log, and what is acknowledged.
+-- THE RUN IS FOLLOWED behind quiet seconds within a minute, and they decide nothing;
 abbrev pub QuietSecondsGoOn : Type 0
 QuietSecondsGoOn = (rule : Rule) (start : Start) (from first : ℕ) (done : List TraceSecond) (p : Progress)
     → BookFollowsRun rule start from first done p →
@@ -77,6 +78,7 @@ QuietSecondsGoOn = (rule : Rule) (start : Start) (from first : ℕ) (done : List
     ≡ decided_of rule (t ∷ span))
     × BookFollowsRun rule start from first (done ++ driven n p.next speed []) q
 
+-- what was travelled stays,
 abbrev pub QuietSecondsStayTravelled : Type 0
 QuietSecondsStayTravelled = (rule : Rule) (start : Start) (from first : ℕ) (done : List TraceSecond) (p : Progress)
     → BookFollowsRun rule start from first done p →
@@ -86,6 +88,7 @@ QuietSecondsStayTravelled = (rule : Rule) (start : Start) (from first : ℕ) (do
     HasLegs rule first (done ++ driven n p.next speed []) (quiet_on n speed (t ∷ span) (went p.log done).before.slots p)
     g
 
+-- each line of the log has its cause still,
 abbrev pub QuietSecondsStayCaused : Type 0
 QuietSecondsStayCaused = (rule : Rule) (start : Start) (from first : ℕ) (done : List TraceSecond) (p : Progress)
     → BookFollowsRun rule start from first done p →
@@ -95,6 +98,7 @@ QuietSecondsStayCaused = (rule : Rule) (start : Start) (from first : ℕ) (done 
     WellCaused before now (done ++ driven n p.next speed [])
     (quiet_on n speed (t ∷ span) (went p.log done).before.slots p)
 
+-- and what is decided is acknowledged still.
 abbrev pub QuietSecondsStayComplete : Type 0
 QuietSecondsStayComplete = (rule : Rule) (start : Start) (from first : ℕ) (done : List TraceSecond) (p : Progress)
     → BookFollowsRun rule start from first done p →

@@ -25,20 +25,23 @@ abbrev pub IsMoment : TraceSecond → Phase → Type 0
 IsMoment s (In n) = n ≤ length s.actions
 IsMoment s Keeping = Unit {0}
 
--- what a moment does by itself: as it begins, and what the cards do at it
+-- what an action that has n before it does by itself: it is carried out or refused; where there is none, nothing
 abbrev pub course_with : ℕ → Option Action → (speed : ℕ) → Course → Course
 course_with n None speed c = c
 course_with n (Some a) speed c = answered n (refusal c.slots speed a) a c
 
+-- the slots that a card enters with that action, and the cards that are taken out of them
 abbrev pub moved_with : ℕ → Option Action → (speed : ℕ) → Course → Moved
 moved_with n None speed c = unmoved false
 moved_with n (Some a) speed c = moved_by n (refusal c.slots speed a) a c.slots
 
+-- the course of a second at a moment before the log tells of it: the power-on, an action by itself, or the keeping
 abbrev pub begun_at : RunLog → Before → TraceSecond → Phase → Course
 begun_at log before s (In zero) = fresh (not before.running) before.slots
 begun_at log before s (In (suc n)) = course_with n (slice_get s.actions n) s.speed (course_by log before s n)
 begun_at log before s Keeping = course_by log before s (length s.actions)
 
+-- the slots that a card enters at that moment, and the cards that are taken out of them
 abbrev pub moved_at : RunLog → Before → TraceSecond → Phase → Moved
 moved_at log before s (In zero) = unmoved (not before.running)
 moved_at log before s (In (suc n)) = moved_with n (slice_get s.actions n) s.speed (course_by log before s n)
@@ -60,12 +63,13 @@ pub record Reaches (p : Progress) (s : TraceSecond) (at : Phase) (log : RunLog) 
   pub up_to : IsUpTo log s.number at
   pub is : IsMoment s at
 
--- a tear at a moment, and a find
+-- a break is a tear of this slot at a moment of a second
 abbrev pub IsTearAt : TraceSecond → Phase → Slot → (failed : Bool) → Break → Type 0
 IsTearAt s at slot failed b =
     (begun : ℕ) × (late : Bool) × (b ≡ Tear s.number slot failed begun late) × (phase_of begun late ≡ at)
     × (begun ≤ length s.actions) × (late ≡ true → begun ≡ length s.actions)
 
+-- a find is of a moment of a second
 pub record IsFindAt (s : TraceSecond) (at : Phase) (f : Find) : Type 0 where
   pub second : f.second ≡ s.number
   pub begun : In f.begun ≡ at

@@ -143,6 +143,7 @@ pub record AreNew (rule : Rule) (start : Start) (next : ℕ) (span told : List T
   pub told_before : (past : List HistoryMinute)
       → minutes_after start (told ++ t ∷ []) past ds ≡ minutes_after start told past ds
 
+-- So are the minutes that a second with power decides behind a span, whatever a later log tells of that second.
 abbrev pub DecidedMinutesAreNew : Type 0
 DecidedMinutesAreNew = (rule : Rule) (start : Start) (from first : ℕ) (done : List TraceSecond) (p : Progress)
     → BookFollowsRun rule start from first done p →

@@ -73,6 +73,7 @@ abbrev pub AreEndedLegs : Rule → ℕ → RunLog → List Break → List (List 
 AreEndedLegs rule first log known_breaks ended b g = AreShutLegs rule first log known_breaks ended [] b g
     ⊎ AreOpenLegs rule first log known_breaks ended b g
 
+-- what was travelled goes with the spans so far: with power each cut is known, without it the last one may not be
 abbrev pub AreLegsOf : Rule → ℕ → RunLog → List Break → List (List ToldSecond) → UnitPower → Book → Travel → Type 0
 AreLegsOf rule first log known_breaks ended (Lit span) b g = AreShutLegs rule first log known_breaks ended span b g
 AreLegsOf rule first log known_breaks ended Due b g = AreEndedLegs rule first log known_breaks ended b g
@@ -178,7 +179,7 @@ ABrokenSecondIsTravelled = (rule : Rule) (start : Start) (from first : ℕ) (don
       waiting = [];
     }) (stranded_at d (all_travelled front g))
 
--- SECONDS WITHOUT POWER leave what was travelled.
+-- SECONDS WITHOUT POWER leave what was travelled: those up to a minute's end after a failed call,
 abbrev pub ADarkMinuteIsTravelled : Type 0
 ADarkMinuteIsTravelled = (rule : Rule) (start : Start) (from first : ℕ) (done : List TraceSecond) (p : Progress)
     → BookFollowsRun rule start from first done p →
@@ -188,12 +189,14 @@ ADarkMinuteIsTravelled = (rule : Rule) (start : Start) (from first : ℕ) (done 
     HasLegs rule first (done ++ driven n p.next speed actions)
     (record p { log = record p.log { refused = refused }; next = p.next + n; begun = begun }) g
 
+-- those of an `off` line where there was no power,
 abbrev pub AnOffLineIsTravelled : Type 0
 AnOffLineIsTravelled = (rule : Rule) (start : Start) (from first : ℕ) (done : List TraceSecond) (p : Progress)
     → BookFollowsRun rule start from first done p →
     (g : Travel) → HasLegs rule first done p g → IsDark p.supply → (n : ℕ) →
     HasLegs rule first (done ++ dark (suc n) p.next) (record p { next = p.next + suc n; begun = 0; supply = Due }) g
 
+-- and those of one that cuts the power.
 abbrev pub AnOffCutIsTravelled : Type 0
 AnOffCutIsTravelled = (rule : Rule) (start : Start) (from first : ℕ) (done : List TraceSecond) (p : Progress)
     → BookFollowsRun rule start from first done p →

@@ -43,10 +43,12 @@ ASecondEnds = (log : RunLog) (before : Before) (s : TraceSecond) → has_power b
     (second_told log before s).course
     ≡ both_told log s.number Keeping (unmoved false) (course_by log before s (length s.actions))
 
--- a cut ends it behind its n-th action: those behind count as settlings alone.
+-- the actions behind a cut have not begun: those that are settlings count as such
 abbrev pub not_begun : (rest : List Action) → Course → Course
 not_begun rest c = record c { settled = c.settled || list_any is_settling rest }
 
+-- A CUT ENDS THE SECOND behind some of its actions: what the keeping tore is told, the rest has not begun, and each
+-- card in a slot loses power.
 abbrev pub ACutEndsTheSecond : Type 0
 ACutEndsTheSecond = (log later : RunLog) (before : Before) (s : TraceSecond) (front rest : List Action)
     → s.actions ≡ front ++ rest →
@@ -114,13 +116,14 @@ AFindIsTold = (log later : RunLog) (u : ℕ) (p : Phase) (slot : Slot) (v : Verd
     moved.enters slot ≡ true → (slot ≡ Driver → (moved.enters CoDriver ≡ false) ⊎ (found_in log u p CoDriver ≡ [])) →
     IsFoundOf u p slot v (both_told log u p moved c) (both_told later u p moved c)
 
--- WHAT THE SLOTS TELL behind a tear, and behind an acceptance.
+-- WHAT THE SLOTS TELL behind a tear: the card is taken out;
 abbrev pub SlotsTellATear : Type 0
 SlotsTellATear = (start : Start) (told : List ToldSecond) (past : List HistoryMinute) (number from : ℕ) (slot : Slot)
     (old new : Course) (k : Kept) →
     SlotsTell start told past old.left number from old.slots k → IsTornFrom slot old new →
     SlotsTell start told past new.left number from new.slots (taken slot number k)
 
+-- and behind an acceptance: the card is put in with the newest minute that it answered.
 abbrev pub SlotsTellAnAcceptance : Type 0
 SlotsTellAnAcceptance = (start : Start) (told : List ToldSecond) (past : List HistoryMinute) (number from : ℕ)
     (p : Phase) (slot : Slot) (v : Verdict) (card : Card) (newest : ℕ) (old new : Course) (k : Kept) →

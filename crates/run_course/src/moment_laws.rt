@@ -1,3 +1,4 @@
+//! What lines of a log make of the moments of a second: laws.
 ghost use Rattle.run_course.specs.Lines.{ASecondIsReached, AnActionIsReached, TheKeepingIsReached, LinesOfTheMoment};
 ghost use Rattle.run_course.specs.Lines.{WhoSitsIsNotTorn, ATearIsSeen, AFindIsSeen, ARefusalIsSeen};
 ghost use Rattle.run_course.specs.Moment.{AMomentBegins, AnActionIsRefused, AnActionIsDone, ACardIsPulled};

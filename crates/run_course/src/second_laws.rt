@@ -1,3 +1,4 @@
+//! How the run of a unit with cards goes on, second by second: laws.
 ghost use Rattle.run_course.specs.Moments.{ABreakMoreIsSeen, AFindMoreIsSeen, ARefusalMoreIsNotSeen};
 ghost use Rattle.run_course.specs.Moments.{LaterLinesChangeNoMoment, AnActionMoreIsActed, OneActionMore};
 ghost use Rattle.run_course.specs.Seconds.{ARunBegins, APowerOnFinds, APowerOnFails, ASecondGoesOn, ASecondBreaksOff};

@@ -1,5 +1,5 @@
 -- Which card is in which slot with which session (profile).
-use Rattle.std.specs.Prelude.{◌≡◌, ◌⊎◌, ℕ, ◌+◌, ◌<◌, ◌≤◌, true, false, Option, Some, None, Result, IfSome, All, List}
+use Rattle.std.specs.Prelude.{◌≡◌, ◌⊎◌, ℕ, ◌+◌, ◌<◌, ◌≤◌, true, false, Option, Some, None, Result, IfSome, All}
 use Rattle.std.specs.Prelude.{[], length, is_some, slice_get, if◌then◌else◌}
 use Rattle.activity_codec.specs.declared.values.Slot.{Slot}
 use Rattle.activity_codec.specs.declared.values.Slot.TheVariants.{Driver, CoDriver}
@@ -41,7 +41,7 @@ with_sizes_of card sizes cabin = record cabin { cards = with_sizes card sizes ca
 abbrev pub with_slot_left : Slot → (second : ℕ) → Cabin → Cabin
 with_slot_left slot second cabin = record cabin { slots = taken slot second cabin.slots }
 
--- a card has this session, or none
+-- a card of the cabin has this session, or none
 abbrev pub with_session_of : Card → Option Accepted → Cabin → Cabin
 with_session_of card session cabin = record cabin { cards = with_session card session cabin.cards }
 
@@ -78,6 +78,7 @@ abbrev pub number_of_seat : Cards → Option Seat → Option FullCardNumber
 number_of_seat cards None = None
 number_of_seat cards (Some seat) = accepted_number (known_of cards seat.card)
 
+-- the numbers of the accepted cards in both slots
 abbrev pub crew_of : Cabin → Crew
 crew_of cabin = record {
   driver = number_of_seat cabin.cards cabin.slots.seats.driver;
@@ -94,11 +95,12 @@ AnswersTo from None (Some accepted) = ⊥
 AnswersTo from (Some newest) None = ⊥
 AnswersTo from (Some newest) (Some accepted) = (accepted.session.minute ≤ newest) ⊎ (accepted.session.minute < from)
 
+-- so it is of the card that sits in a slot, if one does
 abbrev pub SeatAnswers : (from : ℕ) → Cards → Option Seat → Type 0
 SeatAnswers from cards None = Unit {0}
 SeatAnswers from cards (Some seat) = AnswersTo from seat.newest (session_of cards seat.card)
 
--- these are not one card
+-- two cards are not one, where there are two
 abbrev pub AreTwo : Option Card → Option Card → Type 0
 AreTwo None other = Unit {0}
 AreTwo (Some card) None = Unit {0}
@@ -116,6 +118,7 @@ HoldsBy from (Some first) a = a.held.entries ≡ []
 HoldsBy from None a = (a.held.inserted ≤ from) × (length a.held.entries ≤ 8)
     × ((a.held.entries ≡ []) ⊎ LieBetween a.session.minute a.held.inserted a.held.entries)
 
+-- so it is of a session by its own first minute
 abbrev pub HoldsHands : (from : ℕ) → Accepted → Type 0
 HoldsHands from a = HoldsBy from a.held.begun a
 
@@ -141,7 +144,7 @@ pub record EndedStands (from before : ℕ) (cards : Cards) (ended : Ended) : Typ
 abbrev pub SitsThere : Seats → Card → Type 0
 SitsThere seats card = (is_card seats.driver card ≡ true) ⊎ (is_card seats.codriver card ≡ true)
 
--- and in none
+-- a card sits in neither slot
 pub record SitsNowhere (seats : Seats) (card : Card) : Type 0 where
   pub driver : is_card seats.driver card ≡ false
   pub codriver : is_card seats.codriver card ≡ false
@@ -161,7 +164,7 @@ pub record CabinIsSound (from : ℕ) (leaving : Option Card) (cabin : Cabin) : T
   pub newest : KnowsNewest cabin.slots
   pub hands : (card : Card) → IfSome (session_of cabin.cards card) (HoldsHands from)
 
--- The minutes from one on and before another have ended one after the other, and are the newest that are kept.
+-- The minutes from `from` on and before `to` have ended one after the other, and are the newest that are kept.
 pub record KnowsEnded (from to : ℕ) (slots : Kept) : Type 0 where
   pub few : to ≤ from + 4
   pub each : (k : ℕ) → k + from < to

@@ -13,27 +13,27 @@ abbrev pub known_of : Cards → Card → Known
 known_of cards A = cards.a
 known_of cards B = cards.b
 
--- its session, where it is accepted
+-- the session of a card, where it is accepted
 abbrev pub session_of : Cards → Card → Option Accepted
 session_of cards A = cards.a.accepted
 session_of cards B = cards.b.accepted
 
--- it has this session, or none
+-- a card with this session, or with none
 abbrev pub with_session : Card → Option Accepted → Cards → Cards
 with_session A session cards = record cards { a = record cards.a { accepted = session } }
 with_session B session cards = record cards { b = record cards.b { accepted = session } }
 
--- it told these sizes, or a bad field
+-- a card that has told these sizes, or a bad field
 abbrev pub with_sizes : Card → Result Application ℕ → Cards → Cards
 with_sizes A sizes cards = record cards { a = record cards.a { sizes = sizes } }
 with_sizes B sizes cards = record cards { b = record cards.b { sizes = sizes } }
 
--- it told this number, and this row of the unit is begun for it
+-- a card that has told this number, and for which this row of the unit is begun
 abbrev pub with_number : Card → FullCardNumber → (row : ℕ) → Cards → Cards
 with_number A number row cards = record cards { a = record cards.a { number = Some number; row = row } }
 with_number B number row cards = record cards { b = record cards.b { number = Some number; row = row } }
 
--- its number, while it is accepted
+-- the number of a card, while it is accepted
 abbrev pub accepted_number : Known → Option FullCardNumber
 accepted_number known = if is_some known.accepted then known.number else None
 

@@ -8,13 +8,15 @@ use hand_model::Held;
 use tacho_types::FullCardNumber;
 use trace_model::Card;
 
-/// An accepted card: its session, with the entries by hand that it holds until it keeps its first minute, and the entry
-/// that tells of its insertion, by its index and by how many were noted in the run when it was.
+/// An accepted card: its session, and the unit's entry that tells of its insertion.
 #[derive(Drop)]
 pub struct Accepted {
     pub session: CardSession,
+    /// The entries by hand that the session holds until it keeps its first minute.
     pub held: Held,
+    /// The index of the entry in the unit's ring of insertions.
     pub entry: u32,
+    /// How many insertions were noted in the run when that one was.
     pub noted: u64,
 }
 

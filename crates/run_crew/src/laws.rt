@@ -1,3 +1,4 @@
+//! The slots and the sessions in them, as minutes are kept: laws.
 ghost use Rattle.std.specs.Prelude.{◌≡◌, ℕ, ◌+◌, ◌<◌, ◌≤◌, true, Option, Some, is_some};
 ghost use Rattle.card_slots.specs.Calls.{present_in};
 ghost use Rattle.card_slots.specs.Kept.{Kept};

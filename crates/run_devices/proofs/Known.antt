@@ -13,7 +13,7 @@ use Rattle.device_calls.specs.card_model.Changes.{trimmed}
 use Rattle.device_calls.specs.card_retention.Entries.{newest_word}
 use Rattle.device_calls.specs.card_image.Fields.{card_days, end_mark, session_time}
 use Rattle.device_calls.specs.card_image.View.{card_view}
-use Rattle.device_calls.specs.card_image.Own.{own_view, own_sizes, own_covered, IsOwnValid}
+use Rattle.device_calls.specs.card_image.Own.{own_view, own_sizes, own_covered}
 use Rattle.device_calls.specs.device_rule.Views.{beyond}
 use Rattle.run_crew.specs.declared.cards.Accepted.{Accepted}
 use Rattle.run_crew.specs.declared.cards.Cards.{Cards}

@@ -11,7 +11,7 @@ use Rattle.device_calls.specs.card_image.View.{card_view}
 use Rattle.device_calls.specs.card_image.Own.{own_view, own_sizes, KeepsOf}
 use Rattle.device_calls.specs.card_session.Inserting.{Follow}
 use Rattle.device_calls.specs.card_session.Repairs.{first_minute}
-use Rattle.device_calls.specs.hand_model.Written.{Hands, Written, entries_of}
+use Rattle.device_calls.specs.hand_model.Written.{Hands, entries_of}
 use Rattle.device_calls.specs.card_string.Inserts.{IsOnDay}
 use Rattle.device_calls.specs.card_string.Since.{all_since, IsTied, HoldsSince}
 use Rattle.device_calls.specs.card_string.Each.{KeepsSince}

@@ -14,8 +14,8 @@ use Rattle.device_calls.specs.card_files.declared.current_use.CurrentUse.{Curren
 use Rattle.device_calls.specs.card_image.Fields.{file, current_use, session_time}
 use Rattle.device_calls.specs.card_session.Books.{closed}
 use Rattle.device_calls.specs.card_session.Sessions.{Session, book_of}
-use Rattle.device_calls.specs.card_session.Moments.{IsBook, IsKeepMoment, IsCloseMoment}
-use Rattle.device_calls.specs.card_session.Cards.{IsCardKeeping, IsCardClosing, grown}
+use Rattle.device_calls.specs.card_session.Moments.{IsBook, IsCloseMoment}
+use Rattle.device_calls.specs.card_session.Cards.{IsCardClosing}
 use Rattle.device_calls.specs.card_session.Inserting.{repaired, IsRepairMoment, IsStill, IsRepaired, IsNoted, IsNoting, IsShut, IsEnded, IsEnding, IsOpening, InsertingClosed, InsertingOpen, IsCardInserting, timed, registered, unclosed}
 use Rattle.device_calls.proofs.card_session.InsertingCards.{use_same}
 use Rattle.device_calls.proofs.card_session.InsertingUse.{use_inside}
@@ -134,11 +134,6 @@ module _ (app : Application) (registration : Registration) (start : List ℕ) wh
         inserting-used y (inr unclosed_) = open-used y unclosed_.1
 
 -- ---- by a session
-
--- a keep
-pub keep-used : (s : Session) (registration : Registration) (start : List ℕ) (e : Entry) (odometer : ℕ) (x y : List ℕ) → IsUsedSo s.application registration start x → IsCardKeeping s e odometer x y → IsUsedSo s.application registration start y
-keep-used s registration start e odometer x y is keeping =
-    same-used s.application registration start x y (use_same s.application (IsKeepMoment s.application.activity s.registration odometer (grown s.odometer odometer) e (book_of s.application x)) x y keeping.card) is
 
 -- a closing
 pub close-used : (s : Session) (registration : Registration) (start : List ℕ) (act : Activity) (x y : List ℕ) → image_size_of s.application ≤ length x → IsUsedSo s.application registration start x → IsCardClosing s act x y → IsUsedSo s.application registration start y

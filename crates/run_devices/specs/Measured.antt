@@ -21,6 +21,7 @@ pub record Reading : Type 0 where
   pub minute : ℕ
   pub odometer : ℕ
 
+-- the reading of this minute with this odometer
 abbrev pub reading_at : (minute odometer : ℕ) → Reading
 reading_at minute odometer = record { minute = minute; odometer = odometer }
 
@@ -32,7 +33,7 @@ pub record IsMeasured (Is : Reading → Type 0) (old : Vehicles) (v : Vehicle) :
   pub ends : ((m : ℕ) × Is (reading_at m v.odometer_end.0))
       ⊎ SomeIs (λ w. GoesOnFrom w v × (v.odometer_end ≡ w.odometer_end)) old
 
--- EACH VEHICLE ENTRY IS
+-- EACH VEHICLE ENTRY IS MEASURED SO
 abbrev pub AreMeasured : (Is : Reading → Type 0) → (old now : Vehicles) → Type 0
 AreMeasured Is old now = AreIn (IsMeasured Is old) now
 

@@ -37,11 +37,12 @@ pub record StandsIn (f : Found) (standing : Card → Standing) (cards : Cards) (
 abbrev pub IsSeated : Found → (Card → Standing) → Card → ℕ → Type 0
 IsSeated f standing card u = IsOwnValid (found_of f card).image × ((n : ℕ) × (standing card ≡ In u n))
 
+-- a card that sits in its slot since its acceptance in this second
 abbrev pub sits : Card → ℕ → Option Sitting
 sits card u = Some (record { card = card; accepted = Some u })
 
 -- AT A MOMENT of a second of this number, behind these seconds and with this course: the accepted cards sit so, and so
--- stand all that were present in the minutes that have ended, from one on.
+-- stand all that were present in the minutes that have ended, those before `from` aside.
 pub record PresentStand (f : Found) (standing : Card → Standing) (told : List ToldSecond) (c : Course) (number from : ℕ)
     (cabin : Cabin) : Type 0 where
   pub seated : (slot : Slot) (card : Card) (u : ℕ) → in_slot c.slots slot ≡ sits card u → IsSeated f standing card u
@@ -55,11 +56,12 @@ NoneIsToBeKept = (f : Found) (standing : Card → Standing) (told : List ToldSec
     ((slot : Slot) (card : Card) (u : ℕ) → in_slot c.slots slot ≡ sits card u → IsSeated f standing card u)
     → PresentStand f standing told c number (number / 60) cabin
 
--- A MINUTE ENDS: who is present in it stands so. The sessions go with the standings.
+-- a valid card that has a session stands as accepted, with the newest minute of the session
 abbrev pub SessionsStand : Found → (Card → Standing) → Cards → Type 0
 SessionsStand f standing cards = (card : Card) (a : Accepted) → IsOwnValid (found_of f card).image
     → session_of cards card ≡ Some a → (t : ℕ) × (standing card ≡ In t a.session.minute)
 
+-- A MINUTE ENDS: who is present in it stands so.
 abbrev pub AMinuteEndsSo : Type 0
 AMinuteEndsSo = (f : Found) (start : Start) → ((card : Card) → (found_of f card).start ≡ card_start start card) →
     (standing : Card → Standing) (told : List ToldSecond) (c : Course) (past : List HistoryMinute) (left : List Card)

@@ -10,24 +10,24 @@ use Rattle.device_calls.specs.card_session.Vehicles.{Vehicles, behind_first}
 use Rattle.device_calls.specs.card_session.Books.{used}
 use Rattle.device_calls.specs.card_session.Sessions.{book_of}
 
--- each of these that stands is so
+-- each vehicle entry of a ring is so
 abbrev pub RingIn : (P : Vehicle → Type 0) → List (Option Vehicle) → Type 0
 RingIn P [] = Unit {0}
 RingIn P (None ∷ os) = RingIn P os
 RingIn P (Some v ∷ os) = P v × RingIn P os
 
--- EACH VEHICLE ENTRY is so
+-- each vehicle entry of a card is so, the newest and those of its ring
 pub record AreIn (P : Vehicle → Type 0) (v : Vehicles) : Type 0 where
   pub newest : IfSome v.newest P
   pub ring : RingIn P v.ring
 
--- one of these that stands is so
+-- some vehicle entry of a ring is so
 abbrev pub HasOne : (P : Vehicle → Type 0) → List (Option Vehicle) → Type 0
 HasOne P [] = ⊥
 HasOne P (None ∷ os) = HasOne P os
 HasOne P (Some v ∷ os) = P v ⊎ HasOne P os
 
--- some vehicle entry is so
+-- some vehicle entry of a card is so
 abbrev pub SomeIs : (P : Vehicle → Type 0) → Vehicles → Type 0
 SomeIs P v = ((w : Vehicle) × (v.newest ≡ Some w) × P w) ⊎ HasOne P v.ring
 
@@ -44,6 +44,7 @@ pub record VehiclesBefore : Type 0 where
   pub vehicles : Vehicles
   pub minute : ℕ
 
+-- by this image at the start, of a card with these sizes
 abbrev pub vehicles_before : Application → Registration → (start : List ℕ) → VehiclesBefore
 vehicles_before app registration start = record {
   registration = registration;

@@ -7,9 +7,10 @@ use Rattle.device_calls.specs.card_image.Fields.{session_time}
 abbrev pub SessionGoes : Application → (May : ℕ → Type 0) → (x y : List ℕ) → Type 0
 SessionGoes app May x y = (session_time app y ≡ session_time app x) ⊎ May (session_time app y)
 
--- none, as a closing leaves it; and in an insertion none, or that of now
+-- no session is open, as a closing leaves it
 abbrev pub IsNone : (session : ℕ) → Type 0
 IsNone t = t ≡ 0
 
+-- in an insertion: no session is open, or that of now
 abbrev pub IsNoneOr : (now session : ℕ) → Type 0
 IsNoneOr now t = (t ≡ 0) ⊎ (t ≡ now)

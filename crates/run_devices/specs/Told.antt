@@ -3,7 +3,6 @@
 use Rattle.std.specs.Prelude.{◌≡◌, ◌≢◌, ℕ, suc, max, ◌<◌, ◌≤◌, true, Option, Some, None, IfSome, List, [], ◌∷◌, ◌++◌}
 use Rattle.std.specs.Prelude.{All, Contains, length, map, is_some, option_to_list}
 use Rattle.device_calls.specs.activity_codec.declared.entries.Entry.{Entry}
-use Rattle.device_calls.specs.activity_codec.declared.entries.Manual.{Manual}
 use Rattle.device_calls.specs.trace_model.declared.Card.{Card}
 use Rattle.device_calls.specs.trace_model.declared.Card.TheVariants.{A, B}
 use Rattle.tach_media.specs.Medium.{State}
@@ -15,7 +14,7 @@ use Rattle.device_calls.specs.card_retention.Retains.{Rise}
 use Rattle.device_calls.specs.card_image.Own.{own_view, own_sizes, own_covered, IsOwnValid}
 use Rattle.device_calls.specs.card_session.Sessions.{Session, IsSession}
 use Rattle.device_calls.specs.card_session.Cards.{MayEnd}
-use Rattle.device_calls.specs.hand_model.Written.{Hands, and_sure, and_given}
+use Rattle.device_calls.specs.hand_model.Written.{Hands}
 use Rattle.device_calls.specs.card_by_hand.First.{IsShutAt}
 use Rattle.device_calls.specs.card_string.Since.{SitsSince}
 use Rattle.device_calls.specs.history_model.Minutes.{card_history}
@@ -195,17 +194,6 @@ with_acceptance c now newest kept w = record
 -- the marks of entries that a card has, all at this clock
 abbrev pub card_marks : Card → (clock : ℕ) → List Entry → List Mark
 card_marks c clock es = map (λ e. record { device = device_of c; minute = e.minute; clock = clock }) es
-
--- a keep with these entries by hand was broken off, or acknowledged with this mark
-abbrev pub with_given : Card → List Manual → RunLedger → RunLedger
-with_given c hands w = record w { hands = for_card c (and_given hands (w.hands c)) w.hands }
-
-abbrev pub with_first : Card → Mark → List Manual → RunLedger → RunLedger
-with_first c m hands w = record w {
-  hands = for_card c (and_sure hands (w.hands c)) w.hands;
-  firsts = for_card c
-      (w.firsts c ++ record { mark = m; hands = hands } ∷ []) w.firsts;
-}
 
 -- marks more
 abbrev pub with_marks : List Mark → RunLedger → RunLedger

@@ -1,3 +1,4 @@
+//! What each step on the devices leaves of what a run carries: laws.
 ghost use Rattle.std.specs.Prelude.{◌≡◌, ◌/◌, ◌^◌, ◌<◌, ◌≤◌, ℕ, true, Some, None, Ok, length, List};
 ghost use Rattle.device_calls.specs.activity_codec.declared.values.Activity.{Activity};
 ghost use Rattle.tach_media.specs.Medium.{LeavesOnly, Unchanged, IsSettled};

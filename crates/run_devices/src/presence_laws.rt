@@ -1,3 +1,4 @@
+//! How the cards stand that were present in minutes that have ended: laws.
 ghost use Rattle.run_devices.specs.Presence.{NoneIsToBeKept, AMinuteEndsSo, AStepLeavesSo, TheNextBeginsSo};
 ghost use Rattle.run_devices.specs.Presence.{WhatAMinuteSays};
 

@@ -1,3 +1,4 @@
+//! What each image of a card holds of its string is carried of the card: a law.
 ghost use Rattle.std.specs.Prelude.{ℕ, List};
 ghost use Rattle.device_calls.specs.trace_model.declared.Card.{Card};
 ghost use Rattle.device_calls.specs.hand_model.Written.{Hands};

@@ -1,5 +1,5 @@
 -- What adding a block leaves of a unit, and the notes behind it.
-use Rattle.std.proofs.Common.{◌≡◌, inl, inr, ℕ, ◌+◌, ◌<◌, ◌≤◌, Bool, false, not, Option, Some, None, IfSome, List, length, refl, sym, subst, arith}
+use Rattle.std.proofs.Common.{◌≡◌, inl, inr, ℕ, ◌+◌, ◌<◌, Bool, false, not, Option, Some, None, IfSome, List, length, refl, sym, subst, arith}
 use Rattle.tach_media.specs.Medium.{State, IsCoherent, LeavesOnly}
 use Rattle.tach_media.proofs.Runs.{goes_on, weaken, through, at_image}
 use Rattle.unit_notes.specs.Journal.{LeavesJournal}

@@ -1,7 +1,7 @@
 -- The newest block of detailed speed, as a span knows it: calls that leave the ring leave it so.
-use Rattle.std.proofs.Common.{◌≡◌, ℕ, ◌+◌, ◌*◌, ◌<◌, ◌≤◌, Bool, true, not, Option, None, Some, IfSome, is_some, List, sym, ap, ◌∙◌, subst, arith}
+use Rattle.std.proofs.Common.{◌≡◌, ℕ, ◌+◌, ◌*◌, ◌<◌, ◌≤◌, true, not, Option, None, Some, IfSome, is_some, List, sym, ap, ◌∙◌, subst, arith}
 use Rattle.std.specs.Prelude.{◌==◌, Result, Ok, Err, IfOk}
-use Rattle.card_layout.specs.Images.{bytes_at, number_at}
+use Rattle.card_layout.specs.Images.{number_at}
 use Rattle.card_layout.proofs.Spelled.{number_same}
 use Rattle.tach_media.specs.Medium.{State, IsCoherent}
 use Rattle.tach_media.specs.declared.fault.Failed.{Failed}

@@ -1,8 +1,8 @@
 -- What is noted of events leaves the ring of detailed speed.
-use Rattle.std.proofs.Common.{◌≡◌, ◌∙◌, ◌⊎◌, inl, inr, ℕ, ◌+◌, ◌<◌, ◌≤◌, Bool, true, false, cond, Option, Some, None, List, length, refl, ap, sym, subst, arith}
+use Rattle.std.proofs.Common.{◌≡◌, ◌∙◌, inl, inr, ℕ, ◌+◌, ◌<◌, ◌≤◌, Bool, true, false, cond, Option, Some, None, List, length, refl, ap, sym, subst, arith}
 use Rattle.std.specs.Prelude.{◌==◌, nat_lt}
 use Rattle.std.specs.Int.{to_be_bytes, w32}
-use Rattle.card_layout.specs.Images.{SameOutside, bytes_at, number_at, put}
+use Rattle.card_layout.specs.Images.{bytes_at, number_at, put}
 use Rattle.card_layout.proofs.Images.{put_outside}
 use Rattle.tach_media.specs.Medium.{State, IsCoherent, LeavesOnly}
 use Rattle.tach_media.proofs.Runs.{weaken}
@@ -22,7 +22,7 @@ use Rattle.run_speeds.specs.Speeds.{HasSameSpeeds, LeavesSpeeds}
 use Rattle.run_speeds.proofs.Leaving.{leaves-moments, same-before}
 use Rattle.run_events.specs.declared.watch.Ended.{Ended}
 use Rattle.run_events.specs.Entries.{entry_of, number_or_no_card}
-use Rattle.run_events.specs.Noting.{IsBareNoted, IsNotingBare, IsFastNoted, IsNotingFast, AreBeingNoted}
+use Rattle.run_events.specs.Noting.{IsBareNoted, IsNotingBare, IsNotingFast, AreBeingNoted}
 use Rattle.run_events.specs.Watching.{BareWith, OverWith, bare_ended, over_ended}
 
 pub same-speeds : (x c : List ℕ) → c ≡ x → HasSameSpeeds x c
@@ -82,9 +82,6 @@ over-speeds begin front x c long (inr (y, noted, inr is)) =
     (more-speeds (with_first begin y) (first-long begin y high)))
 
 -- ---- insertions, withdrawals and places
-
-pub insertion-speeds : (head x c : List ℕ) → IsAdding insertion_ring head x c → HasSameSpeeds x c
-insertion-speeds head x c adding = same-before x c 2115044 264196 (omega arith) adding.outside
 
 pub place-speeds : (head x c : List ℕ) → IsAdding unit_place_ring head x c → HasSameSpeeds x c
 place-speeds head x c adding = same-before x c 2379240 7144 (omega arith) adding.outside

@@ -28,7 +28,7 @@ abbrev pub IsBlockPut : Option Block → List ℕ → List ℕ → Type 0
 IsBlockPut None x y = y ≡ x
 IsBlockPut (Some b) x y = IsAdded speed_ring (block_bytes b) x y
 
--- a moment of that
+-- a moment of adding a block
 abbrev pub IsPuttingBlock : Option Block → List ℕ → List ℕ → Type 0
 IsPuttingBlock None x c = c ≡ x
 IsPuttingBlock (Some b) x c = IsAdding speed_ring (block_bytes b) x c
@@ -39,16 +39,17 @@ pub record AreNotedBehind (block : Option Block) (ended : Ended) (x y : List ℕ
   pub put : IsBlockPut block x between
   pub noted : AreNoted ended between y
 
--- a moment of both: nothing is noted before the block is added
+-- the block is added, and what has ended is being noted behind it
 pub record AreNotedOn (block : Option Block) (ended : Ended) (x c : List ℕ) : Type 0 where
   pub between : List ℕ
   pub put : IsBlockPut block x between
   pub noting : AreBeingNoted ended between c
 
+-- a moment of both: the block is being added, or it is and what has ended is being noted
 abbrev pub AreBeingNotedBehind : Option Block → Ended → List ℕ → List ℕ → Type 0
 AreBeingNotedBehind block ended x c = IsPuttingBlock block x c ⊎ AreNotedOn block ended x c
 
--- n seconds at a speed were fed, from one on: the block of the minute that ends with them
+-- n seconds at one speed were fed, numbered from `first` on: the block of the minute that ends with them
 pub record IsMinuteFed (old new : List ℕ) (first n speed : ℕ) (block : Option Block) : Type 0 where
   pub stands : (seconds : List SpeedSecond) → minute.KeepsSpeedsOf old seconds first
       → minute.KeepsSpeedsOf new (seconds ++ at_speed first n speed) (first + n)

@@ -34,7 +34,7 @@ entry_of kind begin end first last = record {
   similar = 0;
 }
 
--- the same of a run's cards
+-- such an event of a run, with its cards by name
 abbrev pub event_of : (kind begin end : ℕ) → (at_begin at_end : Cards) → Event
 event_of kind begin end at_begin at_end =
     record { kind = kind; begin = begin; end = end; most = 0; average = 0; at_begin = at_begin; at_end = at_end }

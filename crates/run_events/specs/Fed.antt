@@ -7,7 +7,7 @@ use Rattle.log_model.specs.Course.{Before}
 use Rattle.event_model.specs.Events.{Seen}
 use Rattle.run_course.specs.Quiet.{quiet_second}
 
--- a log tells nothing of the seconds from one on
+-- a log tells nothing of the seconds from a number on
 pub record IsSilentFrom (log : RunLog) (next : ℕ) : Type 0 where
   pub uncut : (u : ℕ) → next ≤ u → cut_in log u ≡ None
   pub torn : (u : ℕ) (p : Phase) (slot : Slot) → next ≤ u → is_torn_in log u p slot ≡ false
@@ -17,7 +17,7 @@ pub record IsSilentFrom (log : RunLog) (next : ℕ) : Type 0 where
 abbrev pub going_with : Slots → Before
 going_with slots = record { running = true; gone = false; given = true; slots = slots }
 
--- a second with power in which nothing happens, as its events see it, and n of them
+-- a second with power in which nothing happens, as its events see it
 abbrev pub still_second : (number speed : ℕ) → Slots → Seen
 still_second number speed slots = record {
   told = quiet_second number speed slots;
@@ -26,6 +26,7 @@ still_second number speed slots = record {
   itself = slots;
 }
 
+-- n such seconds one after another, from a number on, at one speed
 abbrev pub still_seconds : ℕ → (number speed : ℕ) → Slots → List Seen
 still_seconds zero number speed slots = []
 still_seconds (suc n) number speed slots = still_second number speed slots ∷ still_seconds n (number + 1) speed slots

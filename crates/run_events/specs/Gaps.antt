@@ -19,7 +19,7 @@ first_number (x ∷ span) = number_of x
 abbrev pub CutIsTold : List Break → List Seen → Type 0
 CutIsTold breaks span = tells_cut (last_number span) breaks ≡ true
 
--- and it is not known yet what was kept after it, which a break says by 0
+-- the cut that ended a span is told, and not yet what was kept after it, which a break says by 0
 pub record IsUntold (log : RunLog) (found : List Break) (span : List Seen) : Type 0 where
   pub told : CutIsTold log.breaks span
   pub unfound : tells_cut (last_number span) found ≡ false
@@ -35,6 +35,7 @@ pub record IsFailedOn (log : RunLog) (span next : List Seen) : Type 0 where
 abbrev pub IsKnownGap : RunLog → (found : List Break) → List Seen → List Seen → Type 0
 IsKnownGap log found span next = CutIsTold found span ⊎ IsFailedOn log span next
 
+-- so it is between each two of these spans
 abbrev pub AreKnownGaps : RunLog → (found : List Break) → List (List Seen) → Type 0
 AreKnownGaps log found [] = Unit {0}
 AreKnownGaps log found (span ∷ []) = Unit {0}

@@ -6,6 +6,7 @@ pub mod Running
 pub mod Entries
 pub mod Watching
 pub mod Noting
+pub mod Writes
 pub mod Blocks
 pub mod Watched
 pub mod Turned

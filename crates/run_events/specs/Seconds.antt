@@ -21,14 +21,15 @@ last_of (span ∷ next ∷ spans) = last_of (next ∷ spans)
 abbrev pub span_before : List (List Seen) → Seen → List Seen
 span_before spans x = if x.told.starts then [] else last_of spans
 
--- driving without a card and over speedings that end with the second before it, or of several seconds with the one
--- before one of them
+-- driving without a card that ends with the second before one of these, behind those of a span
 abbrev pub bares_by : (span xs : List Seen) → List Event
 bares_by span xs = filter_map bare_event (runs_behind is_bare (last_run is_bare span) xs)
 
+-- the speed of a second is above the limit
 abbrev pub is_fast : (limit : ℕ) → Seen → Bool
 is_fast limit x = is_above limit (speed_second x)
 
+-- the over speedings that end with the second before one of these
 abbrev pub overs_by : (limit : ℕ) → (span xs : List Seen) → List Event
 overs_by limit span xs = filter_map over_event (runs_behind (is_fast limit) (last_run (is_fast limit) span) xs)
 
@@ -38,13 +39,15 @@ gap_before t log [] x = []
 gap_before t log (span ∷ []) x = gap_event t log span (x ∷ [])
 gap_before t log (span ∷ next ∷ spans) x = gap_before t log (next ∷ spans) x
 
+-- the interruption that a second brings: that before it where power begins with it, else none
 abbrev pub gap_by : Tearing → RunLog → List (List Seen) → Seen → List Event
 gap_by t log spans x = if x.told.lit then (if x.told.starts then gap_before t log spans x else []) else []
 
--- faults of cards that were torn out in a second, and what its judged cards bring
+-- the faults of the cards that were torn out in a second
 abbrev pub faults_by : Tearing → RunLog → Seen → List Event
 faults_by t log x = map (fault_of t log x) (torn_in_turn t x x.told.course.torn)
 
+-- the events of a type that the judged cards of a second bring
 abbrev pub found_by : (kind : ℕ) → (sessions : ℕ → Visit → ℕ) → Tearing → Seen → List Event
 found_by kind sessions t x = flat_map (λ f. found_events kind (sessions (number_of x) f.0) t x f.0 f.1)
     x.told.course.found
@@ -73,12 +76,13 @@ pub record IsIdle (x : Seen) : Type 0 where
   pub torn : x.told.course.torn ≡ []
   pub entered : x.told.course.entered ≡ []
 
--- and it goes on its span, or is without power
+-- a second goes on its span, and nothing happens to a card
 pub record IsQuiet (x : Seen) : Type 0 where
   pub idle : IsIdle x
   pub lit : x.told.lit ≡ true
   pub goes_on : x.told.starts ≡ false
 
+-- a second is without power, and nothing happens to a card
 pub record IsDarkSeen (x : Seen) : Type 0 where
   pub idle : IsIdle x
   pub lit : x.told.lit ≡ false

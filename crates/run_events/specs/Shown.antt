@@ -15,10 +15,11 @@ use Rattle.note_model.specs.Tables.{table_in}
 use Rattle.note_model.specs.Unsure.{AreNotedBut, IsFirstBut, IsCountedBut}
 use Rattle.unit_events.specs.Shown.{all_kinds}
 
--- these events by type, and none
+-- the events of a type among these
 abbrev pub by_kind : List Event → ℕ → List Event
 by_kind events kind = filter (λ e. nat_eq e.kind kind) events
 
+-- no event of any type
 abbrev pub none : ℕ → List Event
 none kind = []
 
@@ -26,10 +27,11 @@ none kind = []
 abbrev pub is_sure_by : RunLog → Event → Bool
 is_sure_by log e = not (has_failed_in log (noting_second e))
 
--- or none is taken for sure, or all are
+-- no event is taken for sure
 abbrev pub none_sure : Event → Bool
 none_sure e = false
 
+-- every event is taken for sure
 abbrev pub all_sure : Event → Bool
 all_sure e = true
 
@@ -73,7 +75,7 @@ AreTheFirst some all = (kind : ℕ) → Contains all_kinds kind → (rest : List
 abbrev pub AreNumbers : (Card → List ℕ) → Type 0
 AreNumbers number = (card : Card) → length (number card) ≡ 18
 
--- nothing has changed that tells of events
+-- two images show the same of events and faults
 pub record SaysNothing (x c : List ℕ) : Type 0 where
   pub tables : (kind : ℕ) → Contains all_kinds kind → table_in kind c ≡ table_in kind x
   pub first_over : number_of c FIRST_OVER ≡ number_of x FIRST_OVER

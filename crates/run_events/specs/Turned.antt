@@ -15,9 +15,10 @@ pub record AreEnded (number : Card → FullCardNumber) (limit : ℕ) (span new :
   pub bares : ArePairs (IsBareOf number) (bares_by span new) (option_to_list (bare_ended ended))
   pub overs : ArePairs (IsFastOf number) (overs_by limit span new) (option_to_list (over_ended ended))
 
--- the numbers of seconds fit their field, and none is 0
+-- the number of a second is not 0, and fits its field of four bytes
 abbrev pub IsLow : ℕ → Type 0
 IsLow n = (0 < n) × (n < 2 ^ 32)
 
+-- so do the numbers of these seconds
 abbrev pub AreLow : List Seen → Type 0
 AreLow seen = AllByRecursion (λ x. IsLow (number_of x)) seen

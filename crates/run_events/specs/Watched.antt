@@ -27,11 +27,12 @@ watched number x = record {
 abbrev pub number_bytes : (Card → FullCardNumber) → Card → List ℕ
 number_bytes number card = card_number_bytes (number card)
 
--- what is noted of driving without a card is this event, and what is noted of an over speeding is that one
+-- what is noted of driving without a card is this event
 abbrev pub IsBareOf : (Card → FullCardNumber) → Event → BareWith → Type 0
 IsBareOf number e b = IsEventOf (number_bytes number) e
     (entry_of DRIVING_WITHOUT_CARD b.span.begin b.span.end b.begin b.end)
 
+-- what is noted of an over speeding is this event
 abbrev pub IsFastOf : (Card → FullCardNumber) → Event → OverWith → Type 0
 IsFastOf number e o = IsOverOf (number_bytes number) e o.over (number_or_no_card o.begin.driver)
 

@@ -14,16 +14,16 @@ use run_crew::Crew;
 use tacho_types::{FullCardNumber, Nation, Registration, TimeReal};
 use unit_notes::UnitEvent;
 
-/// Why events are recorded, as EventFaultRecordPurpose numbers it (Appendix 1): one of the most recent,
+// Why events are recorded, as EventFaultRecordPurpose numbers it (Appendix 1): one of the most recent,
 const MOST_RECENT: u8 = 0;
 
-/// the longest of one of the last ten days of occurrence,
+// the longest of one of the last ten days of occurrence,
 const LONGEST: u8 = 1;
 
-/// or the last of one of these.
+// or the last of one of these.
 const LAST_OF_DAY: u8 = 3;
 
-/// A card number, zeros without one.
+/// A card number as a unit stores it: zeros without one.
 pub fn number_or_zeros(number: Option<FullCardNumber>) -> FullCardNumber
     ensures { result ≡ number_or_no_card number }
 {
@@ -37,7 +37,7 @@ pub fn number_or_zeros(number: Option<FullCardNumber>) -> FullCardNumber
     }
 }
 
-/// An event from one second to another, with the cards at its begin and at its end.
+// An event from one second to another, with the cards at its begin and at its end.
 fn event(kind: u8, purpose: u8, span: Span, begin: Crew, end: Crew) -> UnitEvent
     ensures { result ≡ record (entry_of kind span.begin span.end begin end) { purpose = purpose } }
 {
@@ -61,7 +61,7 @@ pub fn card_bare(span: Span, begin: Crew, end: Crew) -> UnitEvent
     event(DRIVING_WITHOUT_CARD, LONGEST, span, begin, end)
 }
 
-/// A card was found not valid in a second.
+/// A card was found not valid in a second, with the cards accepted then.
 pub fn card_not_valid(second: u32, crew: Crew) -> UnitEvent
     ensures { result ≡ entry_of CARD_NOT_VALID second second crew crew }
 {
@@ -86,7 +86,7 @@ pub fn card_driving(second: u32, crew: Crew) -> UnitEvent
     event(INSERTION_WHILE_DRIVING, LAST_OF_DAY, at(second), crew, crew)
 }
 
-/// A card was accepted in a second, whose session was left open since another.
+/// A card was accepted in a second whose session was left open since an earlier one.
 pub fn card_unclosed(session: u32, second: u32, crew: Crew) -> UnitEvent
     ensures { result ≡ entry_of SESSION_NOT_CLOSED session second crew crew }
 {
@@ -97,7 +97,7 @@ pub fn card_unclosed(session: u32, second: u32, crew: Crew) -> UnitEvent
     event(SESSION_NOT_CLOSED, MOST_RECENT, span, crew, crew)
 }
 
-/// Power was gone.
+/// Power was interrupted over these seconds.
 pub fn card_gap(span: Span, crew: Crew) -> UnitEvent
     ensures { result ≡ entry_of POWER_INTERRUPTION span.begin span.end crew crew }
 {
@@ -123,7 +123,7 @@ pub fn on_card(event: &UnitEvent, registration: &Registration) -> CardEvent
     }
 }
 
-/// One second.
+// A span of one second.
 fn at(second: u32) -> Span
     ensures { result ≡ record { begin = second; end = second } }
 {

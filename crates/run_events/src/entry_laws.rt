@@ -1,3 +1,4 @@
+//! The entry of an event tells that event: a law.
 ghost use Rattle.std.specs.Prelude.{◌≡◌, ℕ, List};
 ghost use Rattle.trace_model.specs.declared.Card.{Card};
 ghost use Rattle.event_model.specs.Events.{Crew as Cards, Event};

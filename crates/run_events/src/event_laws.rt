@@ -1,3 +1,4 @@
+//! The events of a run with cards, second by second, and how an image shows them: laws.
 ghost use Rattle.std.specs.Prelude.{◌≡◌, ◌≢◌, ℕ, suc, ◌+◌, ◌^◌, ◌<◌, ◌≤◌, Bool, true, false, List, [], ◌∷◌, ◌++◌, All};
 ghost use Rattle.std.specs.Prelude.{length, take, Contains};
 ghost use Rattle.std.specs.List.{AllByRecursion};

@@ -1,11 +1,9 @@
-//! The events of a run with cards, over its seconds and over the notes of its unit (Annex IB, section III.12). Laws
-//! alone.
+//! The events and faults of a run with cards (Annex IB, section III.12). `Watch` counts the seconds of a power span as
+//! they come, and notes what has ended of driving without a card and of over speedings; a note leaves the bytes of the
+//! journal alone. The entries are those of all types, with the cards that were accepted.
 //!
-//! What a run notes of events and faults with the cards that were accepted (Annex IB, section III.12): the entries, and
-//! the events of a power span as its seconds come. A note leaves the bytes of the journal alone.
-//!
-//! The events of a run with cards, by the numbers of its cards: what is watched of a span's seconds are its events
-//! (Annex IB, section III.12). Laws alone.
+//! The laws join both with the events of the run: each second brings its own, what is watched are these, and an image
+//! shows what was noted.
 #![tactic(auto)]
 
 // events with cards

@@ -16,6 +16,7 @@ ghost use Rattle.run_events.specs.Watching.{WatchesSpan, Watches, WatchesEvents,
 ghost use Rattle.run_events.specs.Watching.{AreOfOneMinute, WatchStands};
 ghost use Rattle.run_events.specs.Noting.{IsBareNoted, IsNotingBare, IsFastNoted, IsNotingFast, AreNoted};
 ghost use Rattle.run_events.specs.Noting.{AreBeingNoted, IsFed};
+ghost use Rattle.run_events.specs.Writes.{watch_most, ended_most, block_most, bare_most, fast_most};
 
 use crate::entries::{card_bare, number_or_zeros};
 use event_model::{Over, Span};
@@ -31,10 +32,15 @@ use unit_notes::UnitNotes;
 /// cards at its first second. It keeps a few counts and no second.
 #[derive(Drop)]
 pub struct Watch {
+    /// The seconds without a card in the driver slot that go on.
     pub bare: NoCardRun,
+    /// The seconds above the limit that go on.
     pub over: Overspeed,
+    /// The speed limit of the vehicle in km/h, 0 to 255.
     pub limit: u8,
+    /// The cards at the first of the seconds without a card, where they go on.
     pub bare_begin: Option<Crew>,
+    /// The cards at the first of the seconds above the limit, where they go on.
     pub over_begin: Option<Crew>,
     /// The cards at the last second.
     pub last: Crew,
@@ -55,11 +61,14 @@ pub struct Ended {
     pub end: Crew,
 }
 
-/// So many seconds of one minute, from a first one on, at one speed in km/h.
+/// Seconds of one minute at one speed.
 #[derive(Clone, Copy)]
 pub struct Seconds {
+    /// The first of them, counted from 1970-01-01 00:00 GMT.
     pub first: u32,
-    pub n: u32,
+    /// How many they are, 1 to 60.
+    pub count: u32,
+    /// Their speed in km/h, 0 to 255.
     pub speed: u8,
 }
 
@@ -83,9 +92,8 @@ impl Watch {
         }
     }
 
-    /// So many seconds more at one speed, one at least, from `first` on, with these cards accepted in them: what has
-    /// ended with the second before them is noted, driving without a card first. Before that the block of the minute is
-    /// added that ends with them.
+    /// Some seconds more, one at least, with these cards accepted in them: what has ended with the second before them is
+    /// noted, driving without a card first. Before that the block of the minute is added that ends with them.
     ///
     /// # Errors
     ///
@@ -97,37 +105,38 @@ impl Watch {
         crew: Crew,
         unit: &mut M,
     ) -> Result<(), Failed>
-        requires seconds { AreOfOneMinute seconds.first seconds.n }
+        requires seconds { AreOfOneMinute seconds.first seconds.count }
         requires watch { WatchStands self.old seconds.first }
         requires unit { UnitMayBeTold self.old.newest (M.state unit.old) }
         ensures newest { OnOk result (KnowsNewest self.new.newest (M.state unit.new)) }
-        ensures watches { Watches self.new (seconds.first + seconds.n) }
+        ensures watches { Watches self.new (seconds.first + seconds.count) }
         ensures limit { self.new.limit ≡ self.new.over.limit }
-        ensures watched { IsWatchedOn (is_err result) self.old self.new seconds.first seconds.n seconds.speed crew
-            (M.state unit.old)
-            (M.state unit.new) }
+        ensures watched { IsWatchedOn (is_err result) self.old self.new seconds.first seconds.count seconds.speed crew
+            (M.state unit.old) (M.state unit.new) }
         ensures journal { LeavesOnly (M.state unit.old) (M.state unit.new) LeavesJournal }
         ensures unit { IsUnit (M.state unit.new) }
         ensures cause { HasCause (M.state unit.old) (M.state unit.new) (is_err result) }
-        ensures most { (M.state unit.new).clock ≤ (M.state unit.old).clock + 15 }
+        ensures most { (M.state unit.new).clock ≤ (M.state unit.old).clock + watch_most }
     {
-        let block = self.speeds.feed(seconds.first, seconds.n, seconds.speed);
-        let ended = self.feed(seconds.first, seconds.n, seconds.speed, crew);
+        let block = self
+            .speeds
+            .feed(seconds.first, seconds.count, seconds.speed);
+        let ended = self.feed(seconds.first, seconds.count, seconds.speed, crew);
         let newest = put_block(&block, self.newest, unit)?;
         self.newest = newest;
         note_ended(memory, &ended, unit)
     }
 
-    // The seconds are fed.
-    fn feed(&mut self, first: u32, n: u32, speed: u8, crew: Crew) -> Ended
-        requires some { 0 < n }
+    // The seconds are fed to both counts: what has ended with the second before them.
+    fn feed(&mut self, first: u32, count: u32, speed: u8, crew: Crew) -> Ended
+        requires some { 0 < count }
         requires low { 0 < first }
-        requires fits { first + n ≤ 2 ^ 32 }
+        requires fits { first + count ≤ 2 ^ 32 }
         requires limit { self.old.limit ≡ self.old.over.limit }
         requires watches { WatchesEvents self.old first }
-        ensures watches { WatchesEvents self.new (first + n) }
+        ensures watches { WatchesEvents self.new (first + count) }
         ensures limit { self.new.limit ≡ self.new.over.limit }
-        ensures fed { IsFed self.old self.new first n speed crew result }
+        ensures fed { IsFed self.old self.new first count speed crew result }
         ensures speeds { self.new.speeds ≡ self.old.speeds }
         ensures newest { self.new.newest ≡ self.old.newest }
         ensures bare { IfSome result.bare (λ s. 0 < s.begin) }
@@ -135,8 +144,8 @@ impl Watch {
     {
         let is_bare = is_driven_bare(speed, crew);
         let ended = Ended {
-            bare: self.bare.feed_run(first, n, is_bare),
-            over: self.over.feed_run(first, n, speed),
+            bare: self.bare.feed_run(first, count, is_bare),
+            over: self.over.feed_run(first, count, speed),
             bare_begin: self.bare_begin.unwrap_or(crew),
             over_begin: self.over_begin.unwrap_or(crew),
             end: self.last,
@@ -183,7 +192,7 @@ fn put_block<M: Medium>(
     ensures journal { LeavesOnly (M.state unit.old) (M.state unit.new) LeavesJournal }
     ensures unit { IsUnit (M.state unit.new) }
     ensures cause { HasCause (M.state unit.old) (M.state unit.new) (is_err result) }
-    ensures most { (M.state unit.new).clock ≤ (M.state unit.old).clock + 5 }
+    ensures most { (M.state unit.new).clock ≤ (M.state unit.old).clock + block_most }
 {
     match block {
         None => Ok(newest),
@@ -205,7 +214,7 @@ fn put_some<M: Medium>(
         (λ x. IfSome (M.state unit.new).image (IsAdded speed_ring (block_bytes block.now) x))) }
     ensures moments { LeavesOnly (M.state unit.old) (M.state unit.new) (IsAdding speed_ring (block_bytes block.now)) }
     ensures cause { HasCause (M.state unit.old) (M.state unit.new) (is_err result) }
-    ensures most { (M.state unit.new).clock ≤ (M.state unit.old).clock + 5 }
+    ensures most { (M.state unit.new).clock ≤ (M.state unit.old).clock + block_most }
 {
     let index = add_next(block, newest, unit)?;
     Ok(Some(index))
@@ -222,7 +231,7 @@ fn add_next<M: Medium>(block: &Block, newest: Option<u32>, unit: &mut M) -> Resu
         (λ x. IfSome (M.state unit.new).image (IsAdded speed_ring (block_bytes block.now) x))) }
     ensures moments { LeavesOnly (M.state unit.old) (M.state unit.new) (IsAdding speed_ring (block_bytes block.now)) }
     ensures cause { HasCause (M.state unit.old) (M.state unit.new) (is_err result) }
-    ensures most { (M.state unit.new).clock ≤ (M.state unit.old).clock + 5 }
+    ensures most { (M.state unit.new).clock ≤ (M.state unit.old).clock + block_most }
 {
     match newest {
         Some(last) => add_block_behind(unit, last, block),
@@ -242,7 +251,7 @@ fn note_ended<M: Medium>(memory: &UnitMemory, ended: &Ended, unit: &mut M) -> Re
     ensures journal { LeavesOnly (M.state unit.old) (M.state unit.new) LeavesJournal }
     ensures unit { IsUnit (M.state unit.new) }
     ensures cause { HasCause (M.state unit.old) (M.state unit.new) (is_err result) }
-    ensures most { (M.state unit.new).clock ≤ (M.state unit.old).clock + 10 }
+    ensures most { (M.state unit.new).clock ≤ (M.state unit.old).clock + ended_most }
 {
     note_bare(memory, ended, unit)?;
     note_fast(memory, ended, unit)
@@ -259,7 +268,7 @@ fn note_bare<M: Medium>(memory: &UnitMemory, ended: &Ended, unit: &mut M) -> Res
     ensures journal { LeavesOnly (M.state unit.old) (M.state unit.new) LeavesJournal }
     ensures unit { IsUnit (M.state unit.new) }
     ensures cause { HasCause (M.state unit.old) (M.state unit.new) (is_err result) }
-    ensures most { (M.state unit.new).clock ≤ (M.state unit.old).clock + 4 }
+    ensures most { (M.state unit.new).clock ≤ (M.state unit.old).clock + bare_most }
 {
     match ended.bare {
         None => Ok(()),
@@ -278,7 +287,7 @@ fn note_fast<M: Medium>(memory: &UnitMemory, ended: &Ended, unit: &mut M) -> Res
     ensures journal { LeavesOnly (M.state unit.old) (M.state unit.new) LeavesJournal }
     ensures unit { IsUnit (M.state unit.new) }
     ensures cause { HasCause (M.state unit.old) (M.state unit.new) (is_err result) }
-    ensures most { (M.state unit.new).clock ≤ (M.state unit.old).clock + 6 }
+    ensures most { (M.state unit.new).clock ≤ (M.state unit.old).clock + fast_most }
 {
     match ended.over {
         None => Ok(()),

@@ -1,3 +1,4 @@
+//! What is watched of the seconds of a span are its events: laws.
 ghost use Rattle.std.specs.Prelude.{◌≡◌, ℕ, List, [], ◌∷◌, ◌++◌, length, map, flat_map};
 ghost use Rattle.std.specs.List.{AllByRecursion, filter_map};
 ghost use Rattle.trace_model.specs.declared.Card.{Card};

@@ -22,10 +22,11 @@ use Rattle.unit_notes.specs.event_model.Places.{earliest}
 unfoldable pub events_in : Application → (kind : ℕ) → List ℕ → List (List ℕ)
 events_in app kind x = map (entry_at (event_ring app kind) x) (range_with_len 0 app.events)
 
--- the type of an entry, and when its event began: 0 where none is there
+-- the type of an entry: 0 where none is there
 abbrev pub kind_of : List ℕ → ℕ
 kind_of entry = number_in event_widths 0 entry
 
+-- when the event of an entry began: 0 where none is there
 abbrev pub begin_of : List ℕ → ℕ
 begin_of entry = number_in event_widths 1 entry
 
@@ -48,6 +49,7 @@ is_held table kind begin = list_any (λ entry. nat_eq (kind_of entry) kind && na
 abbrev pub is_told : List (List ℕ) → CardEvent → Bool
 is_told table event = nat_eq event.kind SESSION_NOT_CLOSED && is_held table event.kind event.begin.0
 
+-- a set with an event more, unless it is one that is noted once, and is there
 abbrev pub with_event : List (List ℕ) → CardEvent → List (List ℕ)
 with_event table event = if is_told table event then table else noted_in table event
 

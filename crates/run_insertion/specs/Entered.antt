@@ -66,6 +66,7 @@ pub record IsNew (app : Application) (registration : Registration) (second : ℕ
 abbrev pub writes_behind : Entering → ℕ
 writes_behind e = if nat_lt 0 e.speed then 4 else 0
 
+-- the clock of the marks is one of the card in this call, and no more writes were begun on it since than those
 pub record IsClock (e : Entering) (clock : ℕ) (card card_after : State) : Type 0 where
   pub low : card.clock ≤ clock
   pub high : clock ≤ card_after.clock

@@ -56,9 +56,11 @@ pub data Way : Type 0 where
 
 -- ---- the lines
 
+-- the line that tells what was found of the card
 abbrev pub find_of : Entering → Verdict → Find
 find_of e verdict = record { second = e.at.second; slot = e.slot; verdict = verdict; begun = e.at.begun }
 
+-- what is told of it by each ending: one find, or none
 abbrev pub finds_by : Ending → Entering → List Find
 finds_by (Unfit fid place) e = find_of e (verdict.NotValid fid place) ∷ []
 finds_by (Ahead stored) e = find_of e (verdict.TimeOverlap stored e.at.second) ∷ []
@@ -68,6 +70,7 @@ finds_by (Unnoted entered clock) e = find_of e (verdict.Accepted entered.replaye
 finds_by (Seated entered clock entry) e = find_of e (verdict.Accepted entered.replayed) ∷ []
 finds_by (Lost entered clock entry) e = find_of e (verdict.Accepted entered.replayed) ∷ []
 
+-- and the line of its tear, where it is torn out
 abbrev pub breaks_by : Ending → Entering → List Break
 breaks_by (Unfit fid place) e = []
 breaks_by (Ahead stored) e = []
@@ -100,6 +103,7 @@ abbrev pub replayed_marks : Entered → (clock : ℕ) → Entering → Listed Ma
 replayed_marks entered clock e marks = and_marks (device_of e.which) clock (last_of entered.owed.items entered.replayed)
     marks
 
+-- the marks behind each ending
 abbrev pub marks_by : Ending → Entering → Listed Mark → Listed Mark
 marks_by (Unfit fid place) e marks = marks
 marks_by (Ahead stored) e marks = marks
@@ -124,6 +128,7 @@ outcome_by ending e o = record {
 abbrev pub and_one : ℕ → ℕ
 and_one noted = min (noted + 1) (2 ^ 64 - 1)
 
+-- how many insertions were noted behind each
 abbrev pub noted_by : Ending → ℕ → ℕ
 noted_by (Unfit fid place) noted = noted
 noted_by (Ahead stored) noted = noted
@@ -139,6 +144,7 @@ seated look session row entry noted e cabin =
     with_accepted e.slot e.which look.number row
     (record { session = session; held = none_held (e.at.second / 60); entry = entry; noted = and_one noted }) cabin
 
+-- slots and sessions behind each
 abbrev pub cabin_by : Ending → Entering → (noted : ℕ) → Cabin → Cabin
 cabin_by (Unfit fid place) e noted cabin = cabin
 cabin_by (Ahead stored) e noted cabin = cabin
@@ -157,6 +163,7 @@ abbrev pub fallen : Bool → Entering → Keeper → Keeper
 fallen false e k = k
 fallen true e k = record k { cabin = torn_out e.which e.at.second k.cabin }
 
+-- the line of its tear, if it is torn out
 abbrev pub fallen_breaks : Bool → Entering → List Break
 fallen_breaks false e = []
 fallen_breaks true e = tear_of e.slot e.at ∷ []
@@ -177,14 +184,16 @@ falls_of (Unnoted entered clock) = 0
 falls_of (Seated entered clock entry) = 0
 falls_of (Lost entered clock entry) = 1
 
+-- how often a card was torn out: once, or not at all
 abbrev pub count_of : Bool → ℕ
 count_of false = 0
 count_of true = 1
 
--- the ending of a card whose sizes are bad: the place of the field in Application_Identification
+-- the file that tells the sizes of a card, Application_Identification
 abbrev pub APPLICATION_FILE : Fid
 APPLICATION_FILE = record { 0 = 0x0501 }
 
+-- the ending of each way: a card that could not be read fell, and one of bad sizes is not valid
 abbrev pub ending_of : Way → Ending
 ending_of Unread = Fell
 ending_of (Unsized field) = Unfit APPLICATION_FILE (place_of_field field)
@@ -202,18 +211,22 @@ measured way e k = record k { cabin = with_sizes_of e.which (sizes_by way) k.cab
 
 -- ---- the insertion's entry
 
+-- a slot as the entry has it
 abbrev pub slot_number : Slot → ℕ
 slot_number Driver = 0
 slot_number CoDriver = 1
 
+-- the registration of the card's newest vehicle, or zeros
 abbrev pub previous_of : Option Vehicle → Registration
 previous_of None = record { 0 = replicate 15 0 }
 previous_of (Some vehicle) = vehicle.registration
 
+-- and when it last used that, or 0
 abbrev pub previous_time_of : Option Vehicle → ℕ
 previous_time_of None = 0
 previous_time_of (Some vehicle) = vehicle.last_use.0
 
+-- THE ENTRY OF AN INSERTION: what the card told, the time, the odometer and the slot; it is not withdrawn yet
 abbrev pub insertion_of : CardLook → Entering → Insertion
 insertion_of look e = record {
   surname = look.surname;

@@ -5,3 +5,4 @@ pub mod CardBrought
 pub mod Entered
 pub mod Told
 pub mod Calls
+pub mod Writes

@@ -58,12 +58,14 @@ pub data UnitNote : Type 0 where
   BeginsRow : (number : FullCardNumber) (session : ℕ) (spared : Option FullCardNumber) → UnitNote
   Tells : (event : UnitEvent) → UnitNote
 
+-- a note is made: it takes an image of the unit to this one,
 abbrev pub IsOnUnit : UnitNote → List ℕ → List ℕ → Type 0
 IsOnUnit (Inserts insertion) x y = IsAdded insertion_ring (insertion_bytes insertion) x y
 IsOnUnit (BeginsRow number session spared) x y = IsRowBegun (card_number_bytes number) session
     (option_map (λ (s : FullCardNumber). card_number_bytes s) spared) x y
 IsOnUnit (Tells event) x y = IsEventNoted event.kind (fault_bytes event) x y
 
+-- or to one at a moment of its writing
 abbrev pub IsComing : UnitNote → List ℕ → List ℕ → Type 0
 IsComing (Inserts insertion) x c = IsAdding insertion_ring (insertion_bytes insertion) x c
 IsComing (BeginsRow number session spared) x c = IsRowBeginning (card_number_bytes number) session
@@ -103,6 +105,7 @@ notes_with true session e cabin = moving_notes e cabin ++ fault_of e cabin ∷ u
 abbrev pub row_of : CardLook → Entering → Cabin → UnitNote
 row_of look e cabin = BeginsRow look.number e.at.second (known_of cabin.cards (other e.which)).number
 
+-- these two; or the insertion alone, where the unit failed as it noted that
 abbrev pub seat_notes : CardLook → Entering → Cabin → Option ℕ → List UnitNote
 seat_notes look e cabin None = Inserts (insertion_of look e) ∷ []
 seat_notes look e cabin (Some entry) = Inserts (insertion_of look e) ∷ row_of look e cabin ∷ []
@@ -146,6 +149,7 @@ moving_event registration e = record {
   registration = registration;
 }
 
+-- it is noted on the card where the speed is not 0
 abbrev pub moving_on_card : Registration → Entering → List CardNote
 moving_on_card registration e = if nat_lt 0 e.speed then Shows (moving_event registration e) ∷ [] else []
 
@@ -186,6 +190,7 @@ AreOnCard (Unsized field) registration e unit x y = y ≡ x
 AreOnCard (Judged app ending) registration e unit x y = AreDone (IsOnCard app registration e unit)
     (card_notes_by ending registration e) x y
 
+-- or an image of the card is at a moment of these notes
 abbrev pub AreComingOnCard : Way → Registration → Entering → (unit : List ℕ) → List ℕ → List ℕ → Type 0
 AreComingOnCard Unread registration e unit x c = ⊥
 AreComingOnCard (Unsized field) registration e unit x c = ⊥

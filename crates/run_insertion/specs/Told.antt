@@ -93,6 +93,7 @@ abbrev pub IsNotedBeside : Found → Card → (card card_after : State) → Type
 IsNotedBeside f c card card_after = TimesOn f c card card_after
     × DoesOn (own_sizes (found_of f c).image) [] card card_after
 
+-- so it is of the card that enters, where the notes of its acceptance may be made
 abbrev pub TimesNotes : Application → Entering → Keeper → (before : Devices) → (card card_after : State) → Type 0
 TimesNotes app e k before card card_after =
     (f : Found) (w : RunLedger) (a : Accepted) → MayNote f w k.cabin.cards e app a before
@@ -173,6 +174,7 @@ pub record IsToldSo (f : Found) (w : RunLedger) (e : Entering) (entered : Entere
   pub most : length entered.owed.items ≤ most_owed
   pub answers : Answers (found_of f e.which) e.which w.book found.card_image entered.session.minute
 
+-- so it is of each ending of a card that was found to be accepted; of the others nothing is said
 abbrev pub IsToldOf : Ending → Found → RunLedger → Entering → (unit card : State) → Type 0
 IsToldOf (Unfit fid place) f w e unit card = Unit {0}
 IsToldOf (Ahead stored) f w e unit card = Unit {0}

@@ -5,10 +5,10 @@ ghost use Rattle.run_crew.specs.Cards.{known_of};
 ghost use Rattle.run_minutes.specs.Keeping.{UnitMayBeCalled};
 ghost use Rattle.card_layout.specs.declared.files.TheConstants.{LARGEST_IMAGE};
 ghost use Rattle.run_insertion.specs.Told.{BooksJudged, BooksEntered, IsEarly, WasInTime};
-ghost use Rattle.device_calls.specs.card_model.declared.lengths.TheConstants.{DAYS_MOST};
 ghost use Rattle.run_insertion.specs.Entering.{Ending, Way, Unfit, Ahead, outcome_by, most_owed};
 ghost use Rattle.run_insertion.specs.Noted.{HasNoted, IsOnUnit, IsComing, notes_by};
 ghost use Rattle.run_insertion.specs.Entered.{IsJudgedSo, HasEntered};
+ghost use Rattle.run_insertion.specs.Writes.{enter_unit_most, enter_card_most};
 ghost use Rattle.run_insertion.specs.Calls.{MayBeJudged, StandsNoted};
 ghost use Rattle.run_insertion.specs.Calls.{CardTellsSizes, EnteringGoesWithin, MayTellFind, StandsJudged};
 
@@ -24,7 +24,7 @@ use run_outcome::Outcome;
 use tach_media::{Chip, Failed, Medium};
 use tacho_types::TimeReal;
 
-// A card is not valid, which is told and noted.
+/// A card is not valid, which is told and noted.
 fn refuse<M: Medium>(
     keeper: &Keeper,
     entering: Entering,
@@ -48,7 +48,7 @@ fn refuse<M: Medium>(
     note_not_valid(keeper, entering.at.second, unit)
 }
 
-// A card tells of a later time, which is told and noted.
+/// A card tells of a later time, which is told and noted.
 fn defer<M: Medium>(
     keeper: &Keeper,
     entering: Entering,
@@ -73,15 +73,16 @@ fn defer<M: Medium>(
     note_overlap(keeper, now, stored, unit)
 }
 
-// A card that enters by these sizes beside the other one.
+/// A card that enters by these sizes beside the other one.
 #[derive(Clone, Copy)]
 struct BesideBy<O> {
     entering: Entering,
     app: Application,
+    /// The other card, which is never called.
     others: O,
 }
 
-// A card that goes by these sizes is judged, and accepted or turned away.
+/// A card that goes by these sizes is judged, and accepted or turned away.
 fn accept_by<M: Medium, C: Chip, D: Chip>(
     keeper: &mut Keeper,
     noted: &mut u64,
@@ -106,7 +107,7 @@ fn accept_by<M: Medium, C: Chip, D: Chip>(
     ensures behind { StandsJudged beside.entry.entering.which (beside.entry.entering.at.second / 60) result keeper.old
         keeper.new (M.state unit.old) (M.state unit.new) (C.state card.old) (C.state card.new) (C.card card.new) }
     ensures clock { (M.state unit.old).clock ≤ (M.state unit.new).clock }
-    ensures goes { EnteringGoesWithin 24 (DAYS_MOST + 88) outcome.old.breaks.items outcome.new.breaks.items
+    ensures goes { EnteringGoesWithin enter_unit_most enter_card_most outcome.old.breaks.items outcome.new.breaks.items
         (M.state unit.old) (M.state unit.new) (C.state card.old) (C.state card.new) }
     ensures in_time { IsEarly beside.entry.entering (C.state card.old) (C.state card.new) }
 {
@@ -178,7 +179,7 @@ pub fn accept<M: Medium, C: Chip, D: Chip>(
     ensures behind { StandsJudged beside.entry.entering.which (beside.entry.entering.at.second / 60) result keeper.old
         keeper.new (M.state unit.old) (M.state unit.new) (C.state card.old) (C.state card.new) (C.card card.new) }
     ensures clock { (M.state unit.old).clock ≤ (M.state unit.new).clock }
-    ensures goes { EnteringGoesWithin 24 (DAYS_MOST + 88) outcome.old.breaks.items outcome.new.breaks.items
+    ensures goes { EnteringGoesWithin enter_unit_most enter_card_most outcome.old.breaks.items outcome.new.breaks.items
         (M.state unit.old) (M.state unit.new) (C.state card.old) (C.state card.new) }
     ensures in_time { WasInTime beside.entry.entering (C.state card.old) (C.state card.new) }
 {

@@ -29,6 +29,7 @@ pub struct Entering {
 #[derive(Clone, Copy)]
 pub struct Beside<O> {
     pub entering: Entering,
+    /// The other card, which is never called: what is said of both cards together speaks of it.
     pub others: O,
 }
 
@@ -55,7 +56,7 @@ pub(crate) fn find(entering: Entering, verdict: Verdict, finds: &mut Lines<Find>
     });
 }
 
-// A mark is told, where there is room.
+/// A mark is told, where there is room.
 fn tell_mark(mark: Mark, marks: &mut Lines<Mark>)
     ensures told { marks.new ≡ and_mark mark marks.old }
     ensures room { marks.new.room ≡ marks.old.room }
@@ -86,7 +87,7 @@ pub(crate) fn tell_replayed(which: Card, owed: &Owed, many: u8, clock: u64, mark
     }
 }
 
-// The slot in an insertion's entry.
+/// The slot in an insertion's entry.
 fn slot_number(slot: Slot) -> u8
     ensures { result ≡ slot_number slot }
 {

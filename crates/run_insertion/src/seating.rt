@@ -12,11 +12,14 @@ ghost use Rattle.run_insertion.specs.Told.{BooksSeat, BooksNotes, TimesNotes, Bo
 ghost use Rattle.run_insertion.specs.Entered.{FitsInsertion, IsSeated, IsMoved, IsNotedOn, IsEntry, IsTaken};
 ghost use Rattle.run_insertion.specs.Calls.{CardGoesBy, IsWithinBounds, MayComeIn, StandsEntered};
 ghost use Rattle.run_insertion.specs.Calls.{StandsSeated, CardMayBeNotedOn, EnteringGoesWithin, MaySeat, StandsJudged};
+ghost use Rattle.run_insertion.specs.Writes.{seat_unit_most, moving_unit_most, moving_card_most, entered_unit_most};
+ghost use Rattle.run_insertion.specs.Writes.{enter_unit_most};
 ghost use Rattle.device_calls.specs.Calls.{MayBeginRow};
 ghost use Rattle.run_minutes.specs.Calls.{MayTear};
 
 use crate::lines::{Entering, find, insertion_of, other_card, tell_replayed};
 use crate::noting::{note_driving, note_unclosed};
+use activity_codec::MINUTE_SECONDS;
 use card_layout::Application;
 use card_session::CardSession;
 use card_validity::CardLook;
@@ -30,7 +33,7 @@ use run_outcome::{Lines, Outcome};
 use tach_media::{Chip, Failed, Medium};
 use unit_notes::UnitNotes;
 
-// A card that is to be seated: how it entered, what it told, its session, and which row of the unit is to be its.
+/// A card that is to be seated: how it entered, what it told, its session, and which row of the unit is to be its.
 #[derive(Drop)]
 struct Seating {
     entering: Entering,
@@ -39,7 +42,7 @@ struct Seating {
     row: u32,
 }
 
-// A card that was seated: how it entered, its sizes, and when the session began that it told unclosed, 0 for none.
+/// A card that was seated: how it entered, its sizes, and when the session began that it told unclosed, 0 for none.
 #[derive(Clone, Copy)]
 struct CardSeated {
     entering: Entering,
@@ -47,7 +50,7 @@ struct CardSeated {
     unclosed: u32,
 }
 
-// The unit notes the insertion of a card, which is accepted in its slot, and its row, which was told before, begins.
+/// The unit notes the insertion of a card, which is accepted in its slot, and its row, which was told before, begins.
 fn seat<M: Medium, C: Chip, D: Chip>(
     keeper: &mut Keeper,
     noted: &mut u64,
@@ -70,7 +73,7 @@ fn seat<M: Medium, C: Chip, D: Chip>(
         (M.state unit.old)
         (M.state unit.new) (C.state card.now) (D.state others.now) }
     ensures behind { StandsSeated seating.entering result keeper.old keeper.new (M.state unit.old) (M.state unit.new) }
-    ensures most { (M.state unit.new).clock ≤ (M.state unit.old).clock + 12 }
+    ensures most { (M.state unit.new).clock ≤ (M.state unit.old).clock + seat_unit_most }
 {
     let entering = seating.entering;
     let look = seating.look;
@@ -83,7 +86,7 @@ fn seat<M: Medium, C: Chip, D: Chip>(
     let spared = keeper.cabin.cards.of(other_card(entering.which)).number;
     let accepted = Accepted {
         session: seating.session,
-        held: Held::new(begin_second / 60),
+        held: Held::new(begin_second / MINUTE_SECONDS),
         entry,
         noted: *noted,
     };
@@ -106,7 +109,7 @@ fn seat<M: Medium, C: Chip, D: Chip>(
     )
 }
 
-// That the vehicle moved is noted on the unit and on the accepted card, which is torn out where it fails.
+/// That the vehicle moved is noted on the unit and on the accepted card, which is torn out where it fails.
 fn note_moving<M: Medium, C: Chip, D: Chip>(
     keeper: &mut Keeper,
     seated: CardSeated,
@@ -131,7 +134,8 @@ fn note_moving<M: Medium, C: Chip, D: Chip>(
     ensures behind { StandsEntered seated.entering.which keeper.old.cabin.slots.minute result keeper.old keeper.new
         (M.state unit.old) (M.state unit.new)
         (C.state card.old) (C.state card.new) (C.card card.new) }
-    ensures goes { EnteringGoesWithin 8 4 breaks.old.items breaks.new.items (M.state unit.old) (M.state unit.new)
+    ensures goes { EnteringGoesWithin moving_unit_most moving_card_most breaks.old.items breaks.new.items
+        (M.state unit.old) (M.state unit.new)
         (C.state card.old) (C.state card.new) }
 {
     let entering = seated.entering;
@@ -147,7 +151,7 @@ fn note_moving<M: Medium, C: Chip, D: Chip>(
     }
 }
 
-// What comes with an accepted card is noted: that the vehicle moved, and that the card's last session was not closed.
+/// What comes with an accepted card is noted: that the vehicle moved, and that the card's last session was not closed.
 fn note_entered<M: Medium, C: Chip, D: Chip>(
     keeper: &mut Keeper,
     seated: CardSeated,
@@ -172,7 +176,8 @@ fn note_entered<M: Medium, C: Chip, D: Chip>(
     ensures behind { StandsEntered seated.entering.which keeper.old.cabin.slots.minute result keeper.old keeper.new
         (M.state unit.old) (M.state unit.new)
         (C.state card.old) (C.state card.new) (C.card card.new) }
-    ensures goes { EnteringGoesWithin 12 4 breaks.old.items breaks.new.items (M.state unit.old) (M.state unit.new)
+    ensures goes { EnteringGoesWithin entered_unit_most moving_card_most breaks.old.items breaks.new.items
+        (M.state unit.old) (M.state unit.new)
         (C.state card.old) (C.state card.new) }
 {
     let entering = seated.entering;
@@ -187,19 +192,21 @@ fn note_entered<M: Medium, C: Chip, D: Chip>(
     note_unclosed(keeper, crew, entering.at.second, session, unit)
 }
 
-// What a card told fills the fields of its insertion.
+/// What a card told fills the fields of its insertion. For the proof alone: it does nothing, and is handed the value,
+/// whose fields are as long as their types say.
 fn fills_its_fields(look: CardLook)
     ensures sized { FitsInsertion look }
 {
     let _ = look;
 }
 
-// A card that is found to be accepted, by these sizes, beside the other one.
+/// A card that is found to be accepted, by these sizes, beside the other one.
 #[derive(Drop)]
 pub(crate) struct Found<O> {
     pub entering: Entering,
     pub app: Application,
     pub entered: Entered,
+    /// The other card, which is never called.
     pub others: O,
 }
 
@@ -235,7 +242,8 @@ pub(crate) fn take_in<M: Medium, C: Chip, D: Chip>(
     ensures behind { StandsJudged found.entry.entering.which (found.entry.entering.at.second / 60) result keeper.old
         keeper.new (M.state unit.old) (M.state unit.new) (C.state card.old) (C.state card.new) (C.card card.new) }
     ensures judged { IsWithinBounds found.entry.entered }
-    ensures goes { EnteringGoesWithin 24 4 outcome.old.breaks.items outcome.new.breaks.items (M.state unit.old)
+    ensures goes { EnteringGoesWithin enter_unit_most moving_card_most outcome.old.breaks.items outcome.new.breaks.items
+        (M.state unit.old)
         (M.state unit.new) (C.state card.old) (C.state card.new) }
 {
     let entering = found.entering;

@@ -202,7 +202,7 @@ module _ (ds : List Minute) (i : ℕ) (low : i < length ds) (at : Moment) (t u v
         × AllKeep f (kepts_on k (map (λ (x : Done). x.minute) so.done)) k.cabin.cards u.keeper.cabin.cards d e
     was = so.books f w start travel may gone stored (earlier time)
 
-    may-here : MayBook f (carried_by k so.done w) here (minute_of m k) u e
+    may-here : MayBook f (carried_by k so.done w) here (minute_of m k) u.keeper.cabin.cards u.marks.items e
     may-here = record { booked = was.0.0; comes = comes f w may }
 
     -- what the minute says of the odometer

@@ -34,10 +34,7 @@ use Rattle.run_devices.specs.run_promise.Found.{Found, found_of, unit_seen, AnyK
 use Rattle.run_devices.specs.run_promise.Between.{RunLedger, devices}
 use Rattle.run_devices.specs.Told.{owes_nothing, AllGo, IsLitWith}
 use Rattle.run_devices.proofs.Parts.{both_of, as-steps, owing-of}
-use Rattle.run_outcome.specs.Lines.{Listed}
-use Rattle.run_minutes.specs.declared.keeper.Keeper.{Keeper}
 use Rattle.run_minutes.specs.Keeping.{TellsPresent, act_in, entry_in, is_this}
-use Rattle.run_minutes.specs.Minutes.{KeepingState}
 use Rattle.run_minutes.specs.Books.{history_minute, MayCome}
 use Rattle.run_minutes.specs.Owing.{and_put, MayPut, BooksPut, TravelsOn, owes_minute, IsOwedOrCut, BooksOwed}
 use Rattle.run_minutes.proofs.Counts.{apart-turned}
@@ -149,9 +146,6 @@ pub put-at : (o : Option Card) (e d : Entry) (failed : Bool) (cards known : Card
 put-at o e d failed cards known U V X Y same are puts =
     subst (λ (c : Cards). BooksPut o d failed c (devices U X Y) (devices V X Y)) are (subst (λ (x : Entry). BooksPut o x failed cards (devices U X Y) (devices V X Y)) same puts)
 
-abbrev pub told_with : Keeper → Listed Mark → KeepingState
-told_with k marks = record { keeper = k; marks = marks; breaks = record { items = []; room = 0 } }
-
 module _ (m : KeptMinute) (present : Present) (says : TellsPresent m present) (two : AreTwo present.driver present.codriver) where
   abbrev i : HistoryMinute
   i = history_minute present m
@@ -180,31 +174,31 @@ module _ (m : KeptMinute) (present : Present) (says : TellsPresent m present) (t
       (λ c is. ap (λ (b : Bool). if b then e ∷ [] else []) (apart-turned present.driver present.codriver c is two))
       (λ c is. says-some c (inr (ap (λ (o : Option Card). is_this o c) is ∙ this-card c)))
 
-  module _ (t u : KeepingState) (U U1 X Y : State) where
+  module _ (cards after : Cards) (marks : List Mark) (U U1 X Y : State) where
     -- the unit failed in the first
-    pub cut-first : BooksPut present.driver e true t.keeper.cabin.cards (devices U X Y) (devices U1 X Y) → TravelsOn U U1 → BooksOwed present m true t u (devices U X Y) (devices U1 X Y)
+    pub cut-first : BooksPut present.driver e true cards (devices U X Y) (devices U1 X Y) → TravelsOn U U1 → BooksOwed present m true cards after marks (devices U X Y) (devices U1 X Y)
     cut-first puts on = λ f w start g leg may gone odometer time.
         let b = may.booked in
         inl (puts f w owes_nothing b.found (may-driver f w may.comes) (owing-of f w (devices U X Y) b.powered.lit) b.powered.go, on start w.book g gone)
 
-    module _ (first : BooksPut present.driver e false t.keeper.cabin.cards (devices U X Y) (devices U1 X Y)) (on : TravelsOn U U1) (U2 : State) where
+    module _ (first : BooksPut present.driver e false cards (devices U X Y) (devices U1 X Y)) (on : TravelsOn U U1) (U2 : State) where
       -- and in the second
-      pub cut-second : BooksPut present.codriver d true t.keeper.cabin.cards (devices U1 X Y) (devices U2 X Y) → TravelsOn U1 U2 → BooksOwed present m true t u (devices U X Y) (devices U2 X Y)
+      pub cut-second : BooksPut present.codriver d true cards (devices U1 X Y) (devices U2 X Y) → TravelsOn U1 U2 → BooksOwed present m true cards after marks (devices U X Y) (devices U2 X Y)
       cut-second puts next = λ f w start g leg may gone odometer time.
           let b = may.booked in
           inl (
-            puts f w (and_put present.driver e owes_nothing) b.found (may-codriver f w may.comes) (first f w owes_nothing b.found (may-driver f w may.comes) (owing-of f w (devices U X Y) b.powered.lit) b.powered.go) (go-on f w t.keeper.cabin.cards U U1 X Y b.powered.go),
+            puts f w (and_put present.driver e owes_nothing) b.found (may-codriver f w may.comes) (first f w owes_nothing b.found (may-driver f w may.comes) (owing-of f w (devices U X Y) b.powered.lit) b.powered.go) (go-on f w cards U U1 X Y b.powered.go),
             next start w.book g (on start w.book g gone),
           )
 
-      module _ (second : BooksPut present.codriver d false t.keeper.cabin.cards (devices U1 X Y) (devices U2 X Y)) (next : TravelsOn U1 U2) (V : State) (failed : Bool) (whole : IsCoherent U2) (whole_a : IsCoherent X) (whole_b : IsCoherent Y)
+      module _ (second : BooksPut present.codriver d false cards (devices U1 X Y) (devices U2 X Y)) (next : TravelsOn U1 U2) (V : State) (failed : Bool) (whole : IsCoherent U2) (whole_a : IsCoherent X) (whole_b : IsCoherent Y)
           (tells : is_some V.image ≡ is_some U2.image) (cause : HasCause U2 V failed)
           (holds : (s : Started) (due : ℕ) (b : Book) (marks : List Mark) (i : HistoryMinute) → kept_minute m ≡ seen_by_unit i → UnitFollowsBook (once_mended s) due b marks U2 → b.maybe ≡ None → due ≤ i.minute → IsHeldUp s b marks i failed V)
           (on_a : Commits m failed U2 V X) (on_b : Commits m failed U2 V Y)
           (views : (a b : List ℕ) (i : HistoryMinute) → kept_minute m ≡ seen_by_unit i → LeavesViews (of_unit a b U2) (of_unit a b V) (IsKeeping KeepsMinute GivesUpDay i))
           (goes : (start : ℕ) (g : Travel) (leg : ℕ) (s : Started) (due : ℕ) (b : Book) (marks : List Mark) (i : HistoryMinute) → kept_minute m ≡ seen_by_unit i → UnitFollowsBook s due b marks U2 → b.maybe ≡ None → due ≤ i.minute
           → HasTravelled start b g U2 → m.odometer.0 ≡ odometer_by (odometer_after start g.before) leg → HasGone start b g i leg failed V)
-          (same : u.keeper.cabin.cards ≡ t.keeper.cabin.cards) where
+          (same : after ≡ cards) where
         committed : (f : Found) (w : RunLedger) (two : f.card_a.number ≢ f.card_b.number) → MayCome f w i → IsLitWith f w (owes_minute i) owes_nothing (devices U2 X Y) → (c : Card) → IsOwnValid (found_of f c).image
             → IsCommitted (both_of f two) c w.book i (w.standing c) failed V (card_of (devices U2 X Y) c)
         committed f w two comes h A valid = on_a (both_of f two) A (once_mended f.unit) w.due w.book w.marks i (w.standing A) (kept-seen m present says) h.unit h.none comes.late (as-steps f two A w.book (w.standing A) (on_card A i) [] U2 X (h.rules A valid))
@@ -216,12 +210,12 @@ module _ (m : KeptMinute) (present : Present) (says : TellsPresent m present) (t
         wholes A = whole_a
         wholes B = whole_b
 
-        pub kept-or-cut : BooksOwed present m failed t u (devices U X Y) (devices V X Y)
+        pub kept-or-cut : BooksOwed present m failed cards after marks (devices U X Y) (devices V X Y)
         kept-or-cut = λ f w start g leg may gone odometer time.
             let b = may.booked in
-            let put = second f w (and_put present.driver e owes_nothing) b.found (may-codriver f w may.comes) (first f w owes_nothing b.found (may-driver f w may.comes) (owing-of f w (devices U X Y) b.powered.lit) b.powered.go) (go-on f w t.keeper.cabin.cards U U1 X Y b.powered.go) in
+            let put = second f w (and_put present.driver e owes_nothing) b.found (may-codriver f w may.comes) (first f w owes_nothing b.found (may-driver f w may.comes) (owing-of f w (devices U X Y) b.powered.lit) b.powered.go) (go-on f w cards U U1 X Y b.powered.go) in
             let h = lit-puts f w (both_put present.driver present.codriver e d) (owes_minute i) U2 X Y all-said put in
             subst (λ (cards : Cards). IsOwedOrCut failed f start w i g leg cards (devices V X Y)) (sym same)
-            (owed-or-cut f t.keeper.cabin.cards b.found w i U2 V X Y whole wholes h (go-on f w t.keeper.cabin.cards U U2 X Y b.powered.go) may.comes one b.early failed tells cause (holds f.unit w.due w.book w.marks i (kept-seen m present says) h.unit h.none may.comes.late)
+            (owed-or-cut f cards b.found w i U2 V X Y whole wholes h (go-on f w cards U U2 X Y b.powered.go) may.comes one b.early failed tells cause (holds f.unit w.due w.book w.marks i (kept-seen m present says) h.unit h.none may.comes.late)
             (committed f w b.found.two may.comes h) (views f.card_a.number f.card_b.number i (kept-seen m present says))
             start g leg (goes start g leg (once_mended f.unit) w.due w.book w.marks i (kept-seen m present says) h.unit h.none may.comes.late (next start w.book g (on start w.book g gone)) odometer) time)

@@ -44,7 +44,7 @@ use Rattle.run_minutes.specs.Owing.{owes_minute, but_to, carried_kept, carried_b
 use Rattle.run_minutes.proofs.Counts.{apart-turned}
 use Rattle.run_minutes.proofs.Rounds.{told-of}
 use Rattle.run_minutes.proofs.Brought.{cards-by, found-session}
-use Rattle.run_minutes.proofs.MinuteBegun.{told_with, clash, this-card, all-said, says-some}
+use Rattle.run_minutes.proofs.MinuteBegun.{clash, this-card, all-said, says-some}
 
 -- ---- what is carried, by what became of each entry
 
@@ -174,8 +174,8 @@ left-none a true e d es is = refl
 left-none true false e d es is = refl
 left-none false false e d es is = sym is
 
-module _ (m : KeptMinute) (present : Present) (says : TellsPresent m present) (two : AreTwo present.driver present.codriver) (k k1 : Keeper) (ms ms1 : Listed Mark) (bs : Listed Break) (same : k1.cabin.cards ≡ k.cabin.cards) (U V X Y : State)
-    (owed : BooksOwed present m false (told_with k ms) (told_with k1 ms1) (devices U X Y) (devices V X Y)) (failed1 : Bool) (fe : Fate) (k2 : Keeper) (second : ℕ) (by1 : k2 ≡ record k1 { cabin = cabin_by fe present.driver second k1.cabin }) (V1 X1 Y1 : State)
+module _ (m : KeptMinute) (present : Present) (says : TellsPresent m present) (two : AreTwo present.driver present.codriver) (k k1 : Keeper) (ms : Listed Mark) (bs : Listed Break) (same : k1.cabin.cards ≡ k.cabin.cards) (U V X Y : State)
+    (owed : BooksOwed present m false k.cabin.cards k1.cabin.cards ms.items (devices U X Y) (devices V X Y)) (failed1 : Bool) (fe : Fate) (k2 : Keeper) (second : ℕ) (by1 : k2 ≡ record k1 { cabin = cabin_by fe present.driver second k1.cabin }) (V1 X1 Y1 : State)
     (one : BooksBrought present.driver (kept_in m Driver) failed1 fe k1.cabin.cards k2.cabin.cards (devices V X Y) (devices V1 X1 Y1)) where
   abbrev i : HistoryMinute
   i = history_minute present m
@@ -213,7 +213,7 @@ module _ (m : KeptMinute) (present : Present) (says : TellsPresent m present) (t
   owes-codriver c is = ap (λ (a : Bool). if a then [] else on_card c i) (not-driver c is) ∙ sym (all-said m present says two c)
       ∙ ap (λ (b : Bool). if b then d ∷ [] else (if is_this present.driver c then e ∷ [] else [])) (this-codriver c is)
 
-  module _ (f : Found) (w : RunLedger) (start : ℕ) (g : Travel) (leg : ℕ) (may : MayBook f w present m (told-of k ms bs) (devices U X Y)) (gone : HasTravelled start w.book g U) (odometer : m.odometer.0 ≡ odometer_by (odometer_after start g.before) leg) (time : V.clock < last_count) where
+  module _ (f : Found) (w : RunLedger) (start : ℕ) (g : Travel) (leg : ℕ) (may : MayBook f w present m k.cabin.cards ms.items (devices U X Y)) (gone : HasTravelled start w.book g U) (odometer : m.odometer.0 ≡ odometer_by (odometer_after start g.before) leg) (time : V.clock < last_count) where
     found1 : AreFoundCards f k1.cabin.cards
     found1 = subst (AreFoundCards f) (sym same) may.booked.found
 
@@ -221,7 +221,7 @@ module _ (m : KeptMinute) (present : Present) (says : TellsPresent m present) (t
     found2 = found-by f fe present.driver second k1 k2 by1 found1
 
     has : IsLitOwing f (w1 w) (owes_minute i) (devices V X Y) × AllGo f (w1 w) (owes_minute i) k1.cabin.cards (devices V X Y) × HasTravelled start (kept i w.book) (travelled i.minute leg g) V
-    has = owed f w start g leg (record { booked = may.booked; comes = may.comes }) gone odometer time
+    has = owed f w start g leg may gone odometer time
 
     first : HasTime present.driver (devices V1 X1 Y1) → IsBroughtOrCut failed1 f (w2 w) (but_to present.driver (owes_minute i)) k2.cabin.cards (devices V1 X1 Y1) × AreTimedOn f (reading_at m.minute m.odometer.0 ∷ []) (devices V X Y) (devices V1 X1 Y1)
         × AllKeep f (kept_for present.driver (kept_in m Driver)) k1.cabin.cards k2.cabin.cards (devices V X Y) (devices V1 X1 Y1)
@@ -283,7 +283,7 @@ module _ (m : KeptMinute) (present : Present) (says : TellsPresent m present) (t
         let there = run2.later in
         omega (arith, low, here, there)
 
-    behind : (f : Found) (w : RunLedger) (start : ℕ) (g : Travel) (leg : ℕ) → MayBook f w present m (told-of k ms bs) (devices U X Y) → HasTravelled start w.book g U → m.odometer.0 ≡ odometer_by (odometer_after start g.before) leg → HaveTime (devices V2 X2 Y2)
+    behind : (f : Found) (w : RunLedger) (start : ℕ) (g : Travel) (leg : ℕ) → MayBook f w present m k.cabin.cards ms.items (devices U X Y) → HasTravelled start w.book g U → m.odometer.0 ≡ odometer_by (odometer_after start g.before) leg → HaveTime (devices V2 X2 Y2)
         → IsBroughtOrCut failed f (w3 w) (but_to present.codriver (but_to present.driver (owes_minute i))) k3.cabin.cards (devices V2 X2 Y2) × AreTimedOn f (reading_at m.minute m.odometer.0 ∷ []) (devices U X Y) (devices V2 X2 Y2)
         × AllKeep f (kept_on present m) k.cabin.cards k3.cabin.cards (devices U X Y) (devices V2 X2 Y2)
     behind f w start g leg may gone odometer time =

@@ -75,7 +75,3 @@ rest-then x y z d e f goes on first next = record {
   card_a = rests-one x.a.accepted y.a.accepted z.a.accepted d.card_a e.card_a f.card_a goes.a on.a first.card_a next.card_a;
   card_b = rests-one x.b.accepted y.b.accepted z.b.accepted d.card_b e.card_b f.card_b goes.b on.b first.card_b next.card_b;
 }
-
--- calls on the unit alone before
-pub rest-behind : (cards mid after : Cards) (u v w a b x y : State) → mid ≡ cards → RestBy mid after (devices v a b) (devices w x y) → RestBy cards after (devices u a b) (devices w x y)
-rest-behind cards mid after u v w a b x y is h = subst (λ (q : Cards). RestBy q after (devices u a b) (devices w x y)) is (record { card_a = h.card_a; card_b = h.card_b })

@@ -133,9 +133,9 @@ IsBooked f start w present i g leg false (Some round) cards d = DevicesPowered f
     d × HasTravelled start (kept i w.book) (travelled i.minute leg g) d.unit
 
 -- WHAT IS ASKED: unit and cards are as the book says, and the minute may come.
-pub record MayBook (f : Found) (w : RunLedger) (present : Present) (m : KeptMinute) (t : KeepingState)
+pub record MayBook (f : Found) (w : RunLedger) (present : Present) (m : KeptMinute) (cards : Cards) (marks : List Mark)
     (d : Devices) : Type 0 where
-  pub booked : AreBooked f w t.keeper.cabin.cards t.marks.items d
+  pub booked : AreBooked f w cards marks d
   pub comes : MayCome f w (history_minute present m)
 
 -- no clock stands at its last value
@@ -164,7 +164,7 @@ AreTimedOn f values d e = (c : Card) → IsOwnValid (found_of f c).image
 abbrev pub BooksMinute : Present → KeptMinute → (failed : Bool) → Option Round → (t u : KeepingState) → (d e : Devices)
     → Type 0
 BooksMinute present m failed round t u d e = (f : Found) (w : RunLedger) (start : ℕ) (g : Travel) (leg : ℕ)
-    → MayBook f w present m t d → HasTravelled start w.book g d.unit
+    → MayBook f w present m t.keeper.cabin.cards t.marks.items d → HasTravelled start w.book g d.unit
     → m.odometer.0 ≡ odometer_by (odometer_after start g.before) leg → HaveTime e
     → IsBooked f start w present (history_minute present m) g leg failed round u.keeper.cabin.cards e
     × AreTimedOn f (reading_at m.minute m.odometer.0 ∷ []) d e

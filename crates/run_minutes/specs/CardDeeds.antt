@@ -41,12 +41,13 @@ DoesOn app ds old new = (b : Book) (held : CurrentUse) → ShowsBook app b held 
 
 -- ---- minutes that a session keeps
 
--- ITS KEEPS of these: each with the odometer value at the end of its minute, and so many km as that has grown since the
--- one before; none at the first of a session. Before the first one it writes of the entries by hand that it holds those
--- of the minute's day, and gives up the others.
+-- the entries by hand that it writes
 abbrev pub enters : List Manual → List Deed
 enters hands = map (λ h. Enter h) hands
 
+-- ITS KEEPS of these: each with the odometer value at the end of its minute, and so many km as that has grown since the
+-- one before; none at the first of a session. Before the first one it writes of the entries by hand that it holds those
+-- of the minute's day, and gives up the others.
 abbrev pub keeps : Registration → (before : Option Odometer) → (holds : List Manual) → List Kept → List Deed
 keeps vehicle before holds [] = []
 keeps vehicle before holds (k ∷ ks) =
@@ -70,20 +71,22 @@ last_odometer before (k ∷ ks) = last_odometer (Some k.odometer) ks
 
 -- ---- sessions that are opened and closed
 
--- AN INSERTION: of a card whose session was left open the days are cut at its end mark, and it keeps what it lacks of
--- what is owed to it, all with the odometer value of now and without a km; then the last words are closed
+-- the keeps of what is owed to a card, all with the odometer value of now and without a km
 abbrev pub owed_keeps : Registration → (odometer : ℕ) → List Entry → List Deed
 owed_keeps vehicle odometer es = map (λ (e : Entry). Keep
     (record { entry = e; registration = vehicle; odometer = odometer; km = 0 })) es
 
+-- AN INSERTION: of a card whose session was left open the days are cut at its end mark, and it keeps what it lacks of
+-- what is owed to it; then the last words are closed with rest
 abbrev pub opens : (used : Bool) → Registration → (odometer : ℕ) → (lacks : List Entry) → List Deed
 opens false vehicle odometer lacks = Close Rest ∷ []
 opens true vehicle odometer lacks = Cut ∷ owed_keeps vehicle odometer lacks ++ Close Rest ∷ []
 
--- the use of a session that begins, and of one that is closed: the vehicle stays
+-- the use of a session that begins in a second, of this vehicle
 abbrev pub begun_use : Registration → (second : ℕ) → CurrentUse
 begun_use vehicle u = record { session = record { 0 = u }; registration = vehicle }
 
+-- the use of a session that is closed: none is open, and the vehicle stays
 abbrev pub ended_use : CurrentUse → CurrentUse
 ended_use held = record { session = record { 0 = 0 }; registration = held.registration }
 

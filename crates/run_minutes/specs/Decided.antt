@@ -20,10 +20,11 @@ use Rattle.run_minutes.specs.Books.{AreBooked, AreTimedOn, HaveTime, IsCutIn, ca
 abbrev pub decided_minute : Keeper → Minute → HistoryMinute
 decided_minute k m = history_minute (present_at k.cabin m.minute) (minute_of m k)
 
--- the odometer values at the ends of some, each with its minute
+-- the odometer value at the end of a decided minute, with its minute
 abbrev pub reading_of : Keeper → Minute → Reading
 reading_of k m = reading_at m.minute (minute_of m k).odometer.0
 
+-- and those of some minutes, one after another
 abbrev pub readings_of : Keeper → List Minute → List Reading
 readings_of k decided = map (reading_of k) decided
 

@@ -34,6 +34,7 @@ round_faults present at round cabin = faults_by round.driver at.second
     (cabin_by round.driver present.driver at.second cabin)
     ++ faults_by round.codriver at.second (cabin_after present at.second round cabin)
 
+-- in the last round, if the unit came so far as to keep its minute
 abbrev pub last_faults : Present → Moment → Option Round → Cabin → List UnitEvent
 last_faults present at None cabin = []
 last_faults present at (Some round) cabin = round_faults present at round cabin
@@ -69,6 +70,7 @@ TellsFirst (v ∷ vs) x c = SaysTheSame x c
     ⊎ ((y : List ℕ) × SaysTheSame x y × (IsNotingEvent CARD_FAULT (fault_bytes v) y c
     ⊎ ((z : List ℕ) × IsEventNoted CARD_FAULT (fault_bytes v) y z × TellsFirst vs z c)))
 
+-- it tells of all these faults; or, where the unit failed, of the first of them
 abbrev pub TellsTo : (failed : Bool) → List UnitEvent → (x c : List ℕ) → Type 0
 TellsTo false vs x c = TellsFaults vs x c
 TellsTo true vs x c = TellsFirst vs x c

@@ -83,6 +83,7 @@ abbrev pub tears_of : Option Accepted → ℕ
 tears_of None = 0
 tears_of (Some accepted) = 1
 
+-- so many cards can be torn out: each that has a session
 abbrev pub most_tears : Cards → ℕ
 most_tears cards = tears_of cards.a.accepted + tears_of cards.b.accepted
 
@@ -97,6 +98,7 @@ GoesOnFrom old None = Unit {0}
 GoesOnFrom None (Some new) = ⊥
 GoesOnFrom (Some old) (Some new) = (new.entry ≡ old.entry) × (new.noted ≡ old.noted)
 
+-- so it is of both cards
 pub record SessionsGoOn (old new : Cards) : Type 0 where
   pub a : GoesOnFrom old.a.accepted new.a.accepted
   pub b : GoesOnFrom old.b.accepted new.b.accepted
@@ -108,10 +110,12 @@ pub record TellsPresent (minute : KeptMinute) (present : Present) : Type 0 where
   pub driver : minute.driver.present ≡ is_some present.driver
   pub codriver : minute.codriver.present ≡ is_some present.codriver
 
+-- the activity that a minute has in a slot
 abbrev pub act_in : KeptMinute → Slot → Activity
 act_in minute Driver = minute.driver.act
 act_in minute CoDriver = minute.codriver.act
 
+-- the card that was present in a slot, if one was
 abbrev pub card_in : Present → Slot → Option Card
 card_in present Driver = present.driver
 card_in present CoDriver = present.codriver
@@ -120,6 +124,7 @@ card_in present CoDriver = present.codriver
 abbrev pub entry_in : KeptMinute → Slot → Entry
 entry_in minute slot = record { minute = minute.minute; slot = slot; crew = is_crew minute; act = act_in minute slot }
 
+-- and the odometer value at its end with it
 abbrev pub kept_in : KeptMinute → Slot → Kept
 kept_in minute slot = record { entry = entry_in minute slot; odometer = minute.odometer }
 
@@ -142,6 +147,7 @@ pub data Fate : Type 0 where
   Has : (accepted : Accepted) (clock : ℕ) → Fate
   Fell : Fate
 
+-- the card is torn out
 abbrev pub has_fallen : Fate → Bool
 has_fallen Still = false
 has_fallen (Has accepted clock) = false

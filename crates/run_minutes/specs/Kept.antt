@@ -1,4 +1,4 @@
--- What the keeping of minutes asks of a recorder, and what it does (profile).
+-- What the keeping of minutes asks of a keeper and its devices, and what it does (profile).
 use Rattle.std.specs.Prelude.{◌≡◌, ◌≢◌, ℕ, ◌+◌, ◌*◌, ◌/◌, ◌<◌, ◌≤◌, Bool, true, false, Option, None, IfSome, List, All}
 use Rattle.std.specs.Prelude.{length, is_some}
 use Rattle.trace_model.specs.declared.Card.{Card}

@@ -131,6 +131,7 @@ abbrev pub or_nobody : Option Present → Present
 or_nobody None = record { driver = None; codriver = None }
 or_nobody (Some present) = present
 
+-- so it is by what the slots remember of the minute
 abbrev pub present_at : Cabin → (minute : ℕ) → Present
 present_at cabin minute = or_nobody (present_in cabin.slots.past minute)
 

@@ -31,7 +31,7 @@ use Rattle.run_devices.specs.Told.{GoesOwing, AreFoundCards, AllGo, owes_nothing
 use Rattle.run_devices.specs.Told.{DevicesUnpowered}
 use Rattle.run_devices.specs.Measured.{reading_at}
 use Rattle.run_minutes.specs.Keeping.{Fate, is_this, marks_by, session_at, held_in}
-use Rattle.run_minutes.specs.Minutes.{KeepingState, unit_mark}
+use Rattle.run_minutes.specs.Minutes.{unit_mark}
 use Rattle.run_minutes.specs.Deeds.{KeepsOn, AllKeep, kept_for}
 use Rattle.run_minutes.specs.Books.{MayBook, IsLeftOff, StaysOn, AreTimedOn, history_minute, standing_by}
 use Rattle.run_minutes.specs.Books.{hands_by, firsts_by}
@@ -40,17 +40,19 @@ use Rattle.run_minutes.specs.Books.{hands_by, firsts_by}
 abbrev pub and_put : Option Card → Entry → (Card → List Entry) → Card → List Entry
 and_put present entry puts c = if is_this present c then entry ∷ [] else puts c
 
--- AN ENTRY WAS TO BE PUT for the minute that comes (`owe_to`), for a card that is valid and present: it is, or the unit
--- failed.
+-- AN ENTRY MAY BE PUT for the minute that comes (`owe_to`): the card for which it is, if there is one, is valid and
+-- present, the minute may come, and none is put for it yet.
 abbrev pub MayPut : Found → Option Card → Entry → RunLedger → (puts : Card → List Entry) → Type 0
 MayPut f None entry w puts = Unit {0}
 MayPut f (Some c) entry w puts = IsOwnValid (found_of f c).image × (puts c ≡ []) × (w.due ≤ entry.minute)
     × (1440 ≤ entry.minute) × IsPresent (found_of f c).start (w.standing c) entry.minute
 
+-- these entries are put; or the unit failed, and all that is carried without power stands
 abbrev pub IsPutOrCut : (failed : Bool) → Found → RunLedger → (puts : Card → List Entry) → Devices → Type 0
 IsPutOrCut false f w puts d = IsLitWith f w puts owes_nothing d
 IsPutOrCut true f w puts d = DevicesUnpowered f w d
 
+-- SO IT IS, WHOEVER IS PRESENT: where an entry may be put it is, or the unit failed.
 abbrev pub BooksPut : Option Card → Entry → (failed : Bool) → Cards → (d e : Devices) → Type 0
 BooksPut present entry failed cards d e = (f : Found) (w : RunLedger) (puts : Card → List Entry) → AreFoundCards f cards
     → MayPut f present entry w puts → IsLitWith f w puts owes_nothing d → AllGo f w owes_nothing cards d
@@ -96,11 +98,12 @@ IsOwedOrCut false f start w i g leg cards d = IsLitOwing f (carried_kept i d.uni
 IsOwedOrCut true f start w i g leg cards d = IsLeftOff f start w i g leg d
 
 -- THE UNIT WAS TO KEEP A MINUTE (`commit`)
-abbrev pub BooksOwed : Present → KeptMinute → (failed : Bool) → (t u : KeepingState) → (d e : Devices) → Type 0
-BooksOwed present m failed t u d e = (f : Found) (w : RunLedger) (start : ℕ) (g : Travel) (leg : ℕ)
-    → MayBook f w present m t d → HasTravelled start w.book g d.unit
+abbrev pub BooksOwed : Present → KeptMinute → (failed : Bool) → (cards after : Cards) → List Mark → (d e : Devices)
+    → Type 0
+BooksOwed present m failed cards after marks d e = (f : Found) (w : RunLedger) (start : ℕ) (g : Travel) (leg : ℕ)
+    → MayBook f w present m cards marks d → HasTravelled start w.book g d.unit
     → m.odometer.0 ≡ odometer_by (odometer_after start g.before) leg → e.unit.clock < last_count
-    → IsOwedOrCut failed f start w (history_minute present m) g leg u.keeper.cabin.cards e
+    → IsOwedOrCut failed f start w (history_minute present m) g leg after e
 
 -- behind an entry: nothing is owed any more to the card that was present; or the unit failed
 abbrev pub IsBroughtOrCut : (failed : Bool) → Found → RunLedger → (owes : Card → List Entry) → Cards → Devices → Type 0
@@ -155,4 +158,5 @@ BooksBrought present said failed fate cards cards_after d e = (f : Found) (w : R
     → IsBroughtOrCut failed f
     (carried_brought fate (held_in (session_at cards present)) present said.entry.minute w) (but_to present owes)
     cards_after e
-    × AreTimedOn f (reading_at said.entry.minute said.odometer.0 ∷ []) d e × AllKeep f (kept_for present said) cards cards_after d e
+    × AreTimedOn f (reading_at said.entry.minute said.odometer.0 ∷ []) d e
+    × AllKeep f (kept_for present said) cards cards_after d e

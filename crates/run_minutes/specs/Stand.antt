@@ -21,7 +21,7 @@ use Rattle.run_minutes.specs.Faults.{NotesFaults}
 use Rattle.run_minutes.specs.Later.{AreAfter, AreCalm, RestBy}
 use Rattle.run_minutes.specs.Writes.{WroteAtMost}
 
--- HOW A RECORDER STANDS: keeper, lines, devices, and by which state each card answers
+-- HOW A KEEPER STANDS, with its lines and its devices, and by which state each card answers
 pub record Stand : Type 1 where
   pub keeper : Keeper
   pub marks : Listed Mark
@@ -30,6 +30,7 @@ pub record Stand : Type 1 where
   pub chip_a : CardState
   pub chip_b : CardState
 
+-- how a keeper stands with these lines, these states of its devices, and these by which the cards answer
 abbrev pub standing : Keeper → Listed Mark → Listed Break → (unit card_a card_b : State) → (chip_a chip_b : CardState)
     → Stand
 standing keeper marks breaks unit card_a card_b chip_a chip_b = record {
@@ -41,9 +42,11 @@ standing keeper marks breaks unit card_a card_b chip_a chip_b = record {
   chip_b = chip_b;
 }
 
+-- its keeper, marks and breaks
 abbrev pub told : Stand → KeepingState
 told s = record { keeper = s.keeper; marks = s.marks; breaks = s.breaks }
 
+-- what is known of its cards
 abbrev pub cards_of : Stand → Cards
 cards_of s = s.keeper.cabin.cards
 

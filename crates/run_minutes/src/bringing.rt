@@ -8,7 +8,7 @@ ghost use Rattle.run_crew.specs.Cabin.{CabinIsSound, crew_of};
 ghost use Rattle.run_minutes.specs.Owing.{BooksCard, BooksBrought};
 ghost use Rattle.run_minutes.specs.Kept.{IsAnother};
 ghost use Rattle.run_minutes.specs.Stand.{StandsAfter, CallsOnly, standing, KeepingGoesWithin};
-ghost use Rattle.run_minutes.specs.Writes.{keep_most};
+ghost use Rattle.run_minutes.specs.Writes.{keep_most, tear_unit_most};
 ghost use Rattle.run_devices.specs.run_promise.Between.{devices};
 ghost use Rattle.run_minutes.specs.Keeping.{UnitMayBeCalled, CardMayBeCalled};
 ghost use Rattle.run_minutes.specs.Keeping.{DevicesMayBeCalled, Fate, IsBrought, IsNotingFault, tears_of};
@@ -23,7 +23,7 @@ use run_outcome::{Lines, Outcome};
 use tach_media::{Chip, Failed, Medium};
 use trace_model::Card;
 
-// What a card is to keep of a minute: which card, its entry, and the moment, as a tear tells it.
+/// What a card is to keep of a minute: which card, its entry, and the moment, as a tear tells it.
 #[derive(Clone, Copy)]
 struct CardKeep {
     which: Card,
@@ -31,7 +31,8 @@ struct CardKeep {
     at: Moment,
 }
 
-// What a minute says on the card that was present in a slot, if one was: its entry, and the moment, as a tear tells it.
+/// What a minute says on the card that was present in a slot, if one was: its entry, and the moment, as a tear tells
+/// it.
 #[derive(Clone, Copy)]
 pub(crate) struct SlotSaid {
     pub present: Option<Card>,
@@ -40,7 +41,7 @@ pub(crate) struct SlotSaid {
 }
 
 impl Keeper {
-    // This card keeps an entry, unless it was torn out since: then it has no session.
+    /// This card keeps an entry, unless it was torn out since: then it has no session.
     fn bring_to<M: Medium, C: Chip>(
         &mut self,
         keep: CardKeep,
@@ -71,7 +72,7 @@ impl Keeper {
         ensures stands { (from : ℕ) (leaving : Option Card) → from ≤ keep.kept.entry.minute + 1
             → CabinIsSound from leaving self.old.cabin
             → CabinIsSound (keep.kept.entry.minute + 1) leaving self.new.cabin }
-        ensures most { ((M.state unit.new).clock ≤ (M.state unit.old).clock + 4)
+        ensures most { ((M.state unit.new).clock ≤ (M.state unit.old).clock + tear_unit_most)
             × ((C.state card.new).clock ≤ (C.state card.old).clock + keep_most) }
     {
         let which = keep.which;
@@ -137,7 +138,7 @@ impl Keeper {
             (D.state card_b.old) (C.card card_a.old) (D.card card_b.old))
             (standing self.new outcome.new.marks outcome.new.breaks (M.state unit.new) (C.state card_a.new)
             (D.state card_b.new) (C.card card_a.new) (D.card card_b.new)) }
-        ensures goes { KeepingGoesWithin 4 keep_most
+        ensures goes { KeepingGoesWithin tear_unit_most keep_most
             (standing self.old outcome.old.marks outcome.old.breaks (M.state unit.old) (C.state card_a.old)
             (D.state card_b.old) (C.card card_a.old) (D.card card_b.old))
             (standing self.new outcome.new.marks outcome.new.breaks (M.state unit.new) (C.state card_a.new)

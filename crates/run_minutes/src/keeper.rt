@@ -20,6 +20,7 @@ pub struct Keeper {
 /// A moment of a run, as a tear tells it.
 #[derive(Clone, Copy, Debug, PartialEq, Eq)]
 pub struct Moment {
+    /// The number of the second.
     pub second: u32,
     /// How many actions of the second have begun.
     pub begun: u32,

@@ -1,12 +1,12 @@
 //! A minute is kept by the unit, and then on the cards that were present in it.
-ghost use Rattle.std.specs.Prelude.{◌≡◌, IfSome, [], is_err};
+ghost use Rattle.std.specs.Prelude.{◌≡◌, IfSome, is_err};
 ghost use Rattle.run_minutes.specs.Keeping.{UnitMayBeCalled, DevicesMayBeCalled, HasItsRow, HaveRows, kept_in};
 ghost use Rattle.run_minutes.specs.Keeping.{TellsPresent};
 ghost use Rattle.run_minutes.specs.Owing.{BooksPut, BooksOwed, TravelsOn};
 ghost use Rattle.run_minutes.specs.Kept.{IsAbsent, MayKeep, Keeps};
 ghost use Rattle.run_minutes.specs.Stand.{UnitStands, StandsAfter, CallsOnly, standing};
 ghost use Rattle.run_minutes.specs.Stand.{KeepingGoesWithin, UnitGoesWithin};
-ghost use Rattle.run_minutes.specs.Writes.{minute_most, minute_unit_most};
+ghost use Rattle.run_minutes.specs.Writes.{owe_unit_most, acknowledge_unit_most, minute_most, minute_unit_most};
 ghost use Rattle.run_devices.specs.run_promise.Between.{devices};
 ghost use Rattle.run_minutes.specs.Calls.{Acknowledges, MayAcknowledge};
 
@@ -24,7 +24,7 @@ use tach_media::{Chip, Failed, Medium};
 use trace_model::Card;
 use unit_minutes::KeptMinute;
 
-// What a minute says on the card of a slot.
+/// What a minute says on the card of a slot.
 fn kept_in(minute: &KeptMinute, slot: Slot) -> Kept
     ensures { result ≡ kept_in minute.now slot }
 {
@@ -52,7 +52,7 @@ pub(crate) struct MinuteSaid {
 }
 
 impl Keeper {
-    // The card that was present in a slot, if one was, is owed its entry of the minute that comes.
+    /// The card that was present in a slot, if one was, is owed its entry of the minute that comes.
     fn owe_to<M: Medium, C: Chip, D: Chip>(
         &mut self,
         present: Option<Card>,
@@ -65,7 +65,7 @@ impl Keeper {
         requires row { IfSome present (HasItsRow self.old.cabin.cards (M.state unit.old)) }
         ensures same { self.new ≡ self.old }
         ensures stands { UnitStands (is_err result) self.old self.new (M.state unit.old) (M.state unit.new) }
-        ensures goes { UnitGoesWithin 3 (is_err result) (M.state unit.old) (M.state unit.new) }
+        ensures goes { UnitGoesWithin owe_unit_most (is_err result) (M.state unit.old) (M.state unit.new) }
         ensures travelled { TravelsOn (M.state unit.old) (M.state unit.new) }
         ensures booked { BooksPut present entry.now (is_err result) self.old.cabin.cards
             (devices (M.state unit.old) (C.state card_a.now) (D.state card_b.now))
@@ -88,7 +88,7 @@ impl Keeper {
         }
     }
 
-    // The unit keeps a minute, which is marked: before, the cards that were present are owed what it says on them.
+    /// The unit keeps a minute, which is marked: before, the cards that were present are owed what it says on them.
     fn acknowledge<M: Medium, C: Chip, D: Chip>(
         &mut self,
         said: MinuteSaid,
@@ -103,10 +103,9 @@ impl Keeper {
         ensures kept { Acknowledges said.minute result self.old self.new marks.old marks.new
             (M.state unit.new).clock }
         ensures stands { UnitStands (is_err result) self.old self.new (M.state unit.old) (M.state unit.new) }
-        ensures goes { UnitGoesWithin 18 (is_err result) (M.state unit.old) (M.state unit.new) }
+        ensures goes { UnitGoesWithin acknowledge_unit_most (is_err result) (M.state unit.old) (M.state unit.new) }
         ensures booked { TellsPresent said.minute said.present → BooksOwed said.present said.minute (is_err result)
-            (record { keeper = self.old; marks = marks.old; breaks = record { items = []; room = 0 } })
-            (record { keeper = self.new; marks = marks.new; breaks = record { items = []; room = 0 } })
+            self.old.cabin.cards self.new.cabin.cards marks.old.items
             (devices (M.state unit.old) (C.state card_a.now) (D.state card_b.now))
             (devices (M.state unit.new) (C.state card_a.now) (D.state card_b.now)) }
     {

@@ -7,10 +7,7 @@ mod bringing;
 mod keeper;
 mod keeping;
 mod minutes;
-mod recorder;
-mod recording;
 mod tearing;
 
 pub use keeper::{Keeper, Moment};
 pub use minutes::{MinutesDecided, odometer_after};
-pub use recorder::{Recorder, Stands};

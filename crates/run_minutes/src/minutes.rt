@@ -28,7 +28,7 @@ pub fn odometer_after(stored: u32, travelled: u64) -> Odometer
     Odometer((stored + more).min(HIGHEST_ODOMETER))
 }
 
-// A slot in a minute.
+/// A slot in a minute.
 fn state(act: Activity, present: Option<Card>) -> State
     ensures { result ≡ record { act = act; present = is_some present } }
 {
@@ -38,7 +38,7 @@ fn state(act: Activity, present: Option<Card>) -> State
     }
 }
 
-// A decided minute as it is kept, with the cards that were present in it.
+/// A decided minute as it is kept, with the cards that were present in it.
 fn kept_of(minute: &Minute, present: Present, stored: u32) -> KeptMinute
     requires { stored ≤ HIGHEST_ODOMETER }
     ensures { result ≡ kept_of stored minute.now present }
@@ -55,12 +55,13 @@ fn kept_of(minute: &Minute, present: Present, stored: u32) -> KeptMinute
 #[derive(Clone, Copy)]
 pub struct MinutesDecided<D> {
     pub decided: D,
+    /// The moment in which the last of them was decided, as a tear tells it.
     pub at: Moment,
 }
 
 impl Keeper {
-    /// Keeps decided minutes, in their order, up to the first that fails: as `Recorder::keep_all` does, for callers
-    /// that have the devices apart.
+    /// Keeps decided minutes, in their order, up to the first that fails: each on the unit, and on the cards that were
+    /// present in it.
     ///
     /// # Errors
     ///

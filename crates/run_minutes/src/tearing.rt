@@ -4,6 +4,7 @@ ghost use Rattle.trace_model.specs.declared.Card.{Card};
 ghost use Rattle.run_crew.specs.Cabin.{CabinIsSound};
 ghost use Rattle.run_minutes.specs.Keeping.{UnitMayBeCalled};
 ghost use Rattle.run_minutes.specs.Calls.{IsTorn, NotesTear, UnitStandsTorn, MayTear};
+ghost use Rattle.run_minutes.specs.Writes.{tear_unit_most};
 
 use crate::keeper::{Keeper, Moment};
 use activity_codec::Slot;
@@ -36,7 +37,7 @@ impl Keeper {
         ensures stands { (from : ℕ) (leaving : Option Card) → CabinIsSound from leaving self.old.cabin
             → CabinIsSound from leaving self.new.cabin }
         ensures leaves { NotesTear result at self.new (M.state unit.old) (M.state unit.new) }
-        ensures most { (M.state unit.new).clock ≤ (M.state unit.old).clock + 4 }
+        ensures most { (M.state unit.new).clock ≤ (M.state unit.old).clock + tear_unit_most }
     {
         breaks.add(Break::Tear {
             second: at.second,

@@ -12,7 +12,7 @@ use Rattle.run_devices.specs.log_model.Log.{RunLog, Phase, Keeping, is_accepting
 use Rattle.run_devices.specs.log_model.Causes.{RoseBy, device_of}
 use Rattle.run_devices.specs.log_model.Course.{ToldSecond, Visit, went}
 use Rattle.run_devices.specs.log_model.Spans.{AreInOrder}
-use Rattle.run_devices.specs.event_model.Events.{Event, Tearing, AreTorn, seen_of, seen_spans, events_of}
+use Rattle.run_devices.specs.event_model.Events.{Event, Tearing, AreTorn, seen_of, seen_spans}
 use Rattle.run_devices.specs.note_model.Events.{AreSessions}
 use Rattle.run_devices.specs.unit_model.declared.layout.TheConstants.{SPEED_LIMIT, OVER_COUNT}
 use Rattle.run_devices.specs.unit_model.Image.{number_of}
@@ -40,10 +40,11 @@ pub use Rattle.run_note_record.specs.Opened.{session_in, images_in}
 use Rattle.run_note_record.specs.Opened.{AreFirst, IsOpenSo, AreOpenSo}
 use Rattle.run_note_record.specs.Uses.{TellExactly, AreExact, AreExactIn}
 
--- the numbers of the cards, by their images at the start, and the limit of the unit
+-- the number of a card, by its image at the start
 abbrev pub number_in : Origin → Card → List ℕ
 number_in o c = own_number (card_image o.recording c)
 
+-- the speed limit of the unit, by its image at the start
 abbrev pub limit_in : Origin → ℕ
 limit_in o = number_of o.recording.unit SPEED_LIMIT
 
@@ -98,10 +99,11 @@ EventsAreFound d e = (o : Origin) (done : List TraceSecond) (p : Progress)
 
 -- ---- over a second
 
--- the choice behind a second, of what no log tells of it
+-- what no log tells of tears, behind a second of which this was chosen
 abbrev pub tearing_now : TraceSecond → (here t : Tearing) → Tearing
 tearing_now s here t = chosen s.number here t
 
+-- the session times that were found, behind a second of which these were
 abbrev pub sessions_now : TraceSecond → (own sessions : ℕ → Visit → ℕ) → ℕ → Visit → ℕ
 sessions_now s own sessions = told_at s.number own sessions
 

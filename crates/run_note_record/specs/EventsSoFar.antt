@@ -62,12 +62,14 @@ abbrev pub puts_into : Slot → Option Action → Bool
 puts_into slot (Some (Insert at card)) = same_slot at slot
 puts_into slot _ = false
 
--- as a second begins: none was torn out as an interruption was noted; and of two cards that are torn out in an
--- insertion the one beside is the first
+-- of two cards that are torn out at a moment the driver's is the first, but where an action puts a card into the driver
+-- slot at it
 abbrev pub first_planned : List Action → ℕ → Bool
 first_planned actions zero = true
 first_planned actions (suc n) = not (puts_into Driver (slice_get actions n))
 
+-- the choice as a second begins: none was torn out as an interruption was noted; and of two cards that are torn out in
+-- an insertion the one beside is the first
 abbrev pub planned : TraceSecond → Tearing
 planned s = record { by_gap = λ u slot. false; driver_first = λ u k. first_planned s.actions k }
 
@@ -103,6 +105,7 @@ pub record Adds (o : Origin) (done : List TraceSecond) (s : TraceSecond) (stage 
   pub kinds : AllByRecursion (λ e. Contains all_kinds e.kind) es
   pub on : (more : List Event) → SoFar o done s stage log more d → SoFar o done s next later (more ++ es) d
 
+-- ONE STEP BEHIND ANOTHER adds the events of both, in that order.
 abbrev pub StepsFollow : Devices → Type 0
 StepsFollow d = (o : Origin) (done : List TraceSecond) (s : TraceSecond) (first second third : Stage)
     (log mid later : RunLog) (es more : List Event) →

@@ -29,13 +29,14 @@ DarkSecondsBringNothing d = (o : Origin) (done : List TraceSecond) (p : Progress
     → Evented o (done ++ driven (suc n) p.next speed actions) (record p.log { refused = refused }) p.unfound
     (p.next + suc n) Lost d
 
--- AN `off` LINE where there is no power, and where there is
+-- AN `off` LINE where there is no power brings nothing,
 abbrev pub AnOffLineBringsNothing : Devices → Type 0
 AnOffLineBringsNothing d = (o : Origin) (done : List TraceSecond) (p : Progress)
     → BookFollowsRun (rule_of o) (start_at o) o.from (first_of o) done p → EventedBy o done p d → IsDark p.supply
     → (n : ℕ) →
     Evented o (done ++ dark (suc n) p.next) p.log p.unfound (p.next + suc n) Due d
 
+-- nor does one that cuts the power.
 abbrev pub AnOffLineCutsAndBringsNothing : Devices → Type 0
 AnOffLineCutsAndBringsNothing d = (o : Origin) (done : List TraceSecond) (p : Progress)
     → BookFollowsRun (rule_of o) (start_at o) o.from (first_of o) done p → EventedBy o done p d

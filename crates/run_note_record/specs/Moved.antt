@@ -14,15 +14,17 @@ use Rattle.run_devices.specs.log_model.Course.{before_next, not_begun, went}
 use Rattle.run_devices.specs.note_model.Done.{course_powered}
 use Rattle.run_devices.specs.note_model.Noted.{accepted_card}
 
--- a card is put in in a second, or taken out
+-- a move: the second in which a card is put in, or taken out where `out` is set
 pub record Move : Type 0 where
   pub second : ℕ
   pub card : Card
   pub out : Bool
 
+-- a card is put in in this second
 abbrev pub goes_in : (second : ℕ) → Card → Move
 goes_in u card = record { second = u; card = card; out = false }
 
+-- a card is taken out in this second
 abbrev pub goes_out : (second : ℕ) → Card → Move
 goes_out u card = record { second = u; card = card; out = true }
 
@@ -59,7 +61,7 @@ moves_to log before s front = woken (not before.running) s.number before.slots
 abbrev pub moves_by : RunLog → Before → TraceSecond → List Move
 moves_by log before s = if has_power before s then moves_to log before s s.actions else []
 
--- and these, one after another
+-- what these seconds move, one after another, where the first has this to know of those before it
 abbrev pub moves_behind : RunLog → Before → List TraceSecond → List Move
 moves_behind log before [] = []
 moves_behind log before (s ∷ ss) = moves_by log before s

@@ -111,11 +111,12 @@ AStageIsDone d e = (o : Origin) (done : List TraceSecond) (s : TraceSecond) (p :
     → HaveLeftMore o d e →
     EventedIn o done s p next log e
 
--- A SECOND BEGINS, with its power-on if power comes with it: nothing is told of it yet, and nothing is noted.
+-- at which stage a second begins: at its power-on if power comes with it
 abbrev pub stage_of : (starts : Bool) → Stage
 stage_of true = Waking
 stage_of false = Acting
 
+-- A SECOND BEGINS: nothing is told of it yet, and nothing is noted.
 abbrev pub TheSecondBegins : Devices → Type 0
 TheSecondBegins d = (o : Origin) (done : List TraceSecond) (p : Progress)
     → BookFollowsRun (rule_of o) (start_at o) o.from (first_of o) done p → EventedBy o done p d

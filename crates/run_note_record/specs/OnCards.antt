@@ -53,7 +53,7 @@ has_call_failed_in log u = list_any (λ b. nat_eq (second_of b) u) (filter has_f
 abbrev pub places_in : (start : List ℕ) → Shape
 places_in start = place_ring (own_sizes start)
 
--- how wide an entry is
+-- the width of an entry of a place on a card, in bytes
 abbrev pub place_width : ℕ
 place_width = total_width place_widths
 
@@ -71,7 +71,7 @@ pub record IsPlaceOn (spans : List SpanFrom) (p : PlaceNote) (e : List ℕ) : Ty
   pub region : entry.region ≡ p.region
   pub odometer : entry.odometer.0 ≡ odometer_at p.second spans
 
--- it is sure where no call failed in its second
+-- a place is sure on a card where no call failed in its second
 abbrev pub is_sure_on : RunLog → PlaceNote → Bool
 is_sure_on log p = not (has_call_failed_in log p.second)
 
@@ -99,17 +99,18 @@ HasSamePlaces start x y = bytes_at y (places_in start).base (size_of (places_in 
 abbrev pub LeavesPlaces : (start : List ℕ) → (old new : State) → Type 0
 LeavesPlaces start old new = (y : List ℕ) → new.may_leave y → (x : List ℕ) × old.may_leave x × HasSamePlaces start x y
 
--- so they do of each that was valid
+-- calls leave the places of each card that was valid
 abbrev pub PlacesStay : Origin → (d e : Devices) → Type 0
 PlacesStay o d e = (c : Card) → IsOwnValid (card_image o.recording c)
     → LeavesPlaces (card_image o.recording c) (card_of d c) (card_of e c)
 
 -- ---- the vehicle entries of a card
 
--- the last of some seconds is the one before this; or the first of some is this one
+-- the last of some seconds is the one before this
 abbrev pub EndBefore : (second : ℕ) → List Second → Type 0
 EndBefore u ss = (front : List Second) × (x : Second) × (ss ≡ front ++ x ∷ []) × (suc x.number ≡ u)
 
+-- the first of some seconds is this one
 abbrev pub BeginWith : (second : ℕ) → List Second → Type 0
 BeginWith u ss = (x : Second) × (behind : List Second) × (ss ≡ x ∷ behind) × (x.number ≡ u)
 
@@ -126,11 +127,12 @@ pub record IsReading (spans : List SpanFrom) (second n : ℕ) : Type 0 where
   pub is : n ≡ odometer_by s.base (sum_by (λ (x : Second). x.speed) (seconds_in front))
   pub when : EndBefore second (seconds_in front) ⊎ BeginWith second (seconds_in behind)
 
--- IT STOOD SO AS ITS MINUTE ENDED
+-- A READING IS OF THE END OF ITS MINUTE: the odometer stood so as that ended
 abbrev pub IsReadingAtEnd : List SpanFrom → Reading → Type 0
 IsReadingAtEnd spans r = IsReading spans (60 * (r.minute + 1)) r.odometer
 
--- IT IS THAT OF ITS MINUTE: it stood so as that ended; or before a second of a later minute that is one of these
+-- A READING IS THAT OF ITS MINUTE: the odometer stood so as that ended, or before a second of a later minute that is
+-- one of these
 abbrev pub IsReadingOf : List SpanFrom → (May : ℕ → Type 0) → Reading → Type 0
 IsReadingOf spans May r = IsReadingAtEnd spans r
     ⊎ ((second : ℕ) × May second × (r.minute < second / 60) × IsReading spans second r.odometer)
@@ -159,7 +161,7 @@ abbrev pub SessionsGo : Origin → (May : Card → ℕ → Type 0) → (d e : De
 SessionsGo o May d e = (c : Card) → IsOwnValid (card_image o.recording c) → (y : List ℕ) → (card_of e c).may_leave y
     → (x : List ℕ) × (card_of d c).may_leave x × SessionGoes (own_sizes (card_image o.recording c)) (May c) x y
 
--- no other comes
+-- no other session comes
 abbrev pub NoOtherComes : Card → ℕ → Type 0
 NoOtherComes c t = ⊥
 
@@ -170,7 +172,7 @@ pub record CardsGo (o : Origin) (spans : List SpanFrom) (May : Card → ℕ → 
   pub vehicles : VehiclesGo o spans May d e
   pub sessions : SessionsGo o May d e
 
--- and no session comes
+-- calls leave the places of the cards and let no session come; their vehicle entries go on
 abbrev pub CardsStay : Origin → List SpanFrom → (d e : Devices) → Type 0
 CardsStay o spans d e = CardsGo o spans NoOtherComes d e
 

@@ -29,11 +29,12 @@ images_in o d c = (card_of d c).left_since (found_of o.found c).began
 abbrev pub came_in : Card → ToldSecond → Bool
 came_in c t = list_any (λ v. same_card c v.card) t.course.entered
 
--- an action puts it in, and how often a second does
+-- an action puts this card into a slot
 abbrev pub puts_in : Card → Action → Bool
 puts_in c (Insert slot card) = same_card c card
 puts_in c _ = false
 
+-- how often the actions of a second put this card into a slot
 abbrev pub times_put : Card → TraceSecond → ℕ
 times_put c s = length (filter (puts_in c) s.actions)
 
@@ -60,7 +61,7 @@ abbrev pub IsOpenSo : Origin → List ToldSecond → List TraceSecond → Device
 IsOpenSo o told trace d c u session = (x : List ℕ) × images_in o d c x × (session_in x ≡ session)
     × IsFirst (card_image o.recording) told trace c u session
 
--- at each acceptance
+-- so it was at each acceptance of these seconds
 abbrev pub AreOpenSo : Origin → List ToldSecond → List TraceSecond → Devices → (ℕ → Visit → ℕ) → Type 0
 AreOpenSo o told trace d sessions =
     (t : ToldSecond) (f : Visit × Verdict) → Contains told t → Contains t.course.found f → is_accepting f.1 ≡ true →

@@ -51,10 +51,11 @@ pub record Since : Type 0 where
   pub trace : List TraceSecond
   pub moves : List Move
 
--- behind these seconds; and within one more, where the log was this as it began
+-- so far a run has gone behind these seconds,
 abbrev pub since_behind : Origin → RunLog → List TraceSecond → Since
 since_behind o log done = record { origin = o; told = (went log done).told; trace = done; moves = moves_in log done }
 
+-- within one more, where the log was this as it began,
 abbrev pub since_in : Origin → RunLog → List TraceSecond → TraceSecond → Since
 since_in o began done s = record {
   origin = o;
@@ -77,7 +78,7 @@ since_at o began done log s front = record {
 abbrev pub holder_in : Origin → Card → Holder
 holder_in o = holder_of o.recording
 
--- its newest vehicle, by its image at the start
+-- the newest vehicle of a card, by its image at the start
 abbrev pub TellsAtStart : Recording → Card → List ℕ → ℕ → Type 0
 TellsAtStart r c registration time = TellsVehicle r (newest_vehicle (own_sizes (card_image r c)) (card_image r c))
     registration time
@@ -89,16 +90,19 @@ TellsIn o d u c registration time =
     IsPrevious o.origin.recording (found_of o.origin.found c).began (card_of d c) registration time
     × (TellsAtStart o.origin.recording c registration time ⊎ HasComeBefore o.told o.trace c u)
 
--- an entry stands for an insertion, and for a place
+-- an entry stands for an insertion, by what the card told of its last vehicle
 abbrev pub IsInsertionIn : Since → RunLog → List SpanFrom → Devices → InsertionNote → List ℕ → Type 0
 IsInsertionIn o log spans d n e = IsInsertion log spans (holder_in o.origin) (TellsIn o d n.accepted.second) n e
 
+-- an entry stands for a place
 abbrev pub IsPlaceIn : Origin → RunLog → List SpanFrom → PlaceNote → List ℕ → Type 0
 IsPlaceIn o log spans = IsPlace log spans (holder_in o)
 
+-- an insertion is sure: no call on the unit failed in its second
 abbrev pub sure_insertion : Origin → RunLog → List SpanFrom → InsertionNote → Bool
 sure_insertion o log spans = is_sure_insertion log spans (holder_in o)
 
+-- a place is sure: no call on the unit failed in its second
 abbrev pub sure_place : Origin → RunLog → List SpanFrom → PlaceNote → Bool
 sure_place o log spans = is_sure_place log spans (holder_in o)
 
@@ -107,7 +111,7 @@ pub record Seating : Type 0 where
   pub index : ℕ
   pub behind : ℕ
 
--- one insertion more was added
+-- the same with one insertion more added since
 abbrev pub one_behind : Seating → Seating
 one_behind s = record s { behind = suc s.behind }
 
@@ -173,6 +177,7 @@ pub record Ringed (o : Since) (log : RunLog) (spans : List SpanFrom) (notes : Li
 
 -- ---- steps
 
+-- calls leave both rings of the unit as they are
 abbrev pub StaysInRings : (d e : Devices) → Type 0
 StaysInRings d e = LeavesRings d.unit e.unit
 
@@ -184,14 +189,16 @@ Around R x y = (p : List ℕ) × (q : List ℕ) × HasSameRings x p × R p q × 
 abbrev pub WritesImages : (R : List ℕ → List ℕ → Type 0) → (old new : State) → Type 0
 WritesImages R old new = (y : List ℕ) → new.may_leave y → (x : List ℕ) × old.may_leave x × Around R x y
 
+-- each image of the unit behind a call was written so
 abbrev pub WritesRing : (R : List ℕ → List ℕ → Type 0) → (d e : Devices) → Type 0
 WritesRing R d e = WritesImages R d.unit e.unit
 
--- an entry is added to a ring, which takes this index; or the unit failed in that
+-- an entry is added to the ring of insertions, and takes this index
 abbrev pub IsAddedAt : (index : ℕ) → (head : List ℕ) → List ℕ → List ℕ → Type 0
 IsAddedAt index head p q = IsAdded insertion_ring head p q
     × (PointsInside insertion_ring p → index ≡ taken insertion_ring p)
 
+-- the unit failed as an entry was added: nothing was written, or a moment of adding it
 abbrev pub MayBeAdded : Shape → (head : List ℕ) → List ℕ → List ℕ → Type 0
 MayBeAdded r head p q = (q ≡ p) ⊎ IsAdding r head p q
 
@@ -200,7 +207,7 @@ abbrev pub IsWithdrawnAt : Seating → TimeReal → Odometer → List ℕ → Li
 IsWithdrawnAt s time odometer p q = (IsWithdrawn s.index time odometer p q × (s.behind < insertion_ring.count))
     ⊎ (HasSameRings p q × (insertion_ring.count ≤ s.behind))
 
--- the unit failed as it was written, or so
+-- the unit failed as it was written: a moment of that; or so many were added since that it is gone
 abbrev pub MayBeWithdrawn : Seating → TimeReal → Odometer → List ℕ → List ℕ → Type 0
 MayBeWithdrawn s time odometer p q = (IsWithdrawing s.index time odometer p q × (s.behind < insertion_ring.count))
     ⊎ (HasSameRings p q × (insertion_ring.count ≤ s.behind))
@@ -272,7 +279,7 @@ AWithdrawalIsNoted d e = (o : Since) (log : RunLog) (spans : List SpanFrom) (not
     ((c : Card) → ((same_card w.card c ≡ false) × (now c ≡ seats c)) ⊎ ((same_card w.card c ≡ true) × (now c ≡ None)))
     → Shuts o.origin log w e → Ringed o log spans (notes ++ Withdraws w ∷ []) now e
 
--- OR THE UNIT FAILED IN IT: it stands, or does not
+-- OR THE UNIT FAILED IN IT: an insertion stands, or does not,
 abbrev pub AnInsertionIsBroken : (d e : Devices) → Type 0
 AnInsertionIsBroken d e = (o : Since) (log : RunLog) (spans : List SpanFrom) (notes : List Note)
     (seats : Card → Option Seating) → Ringed o log spans notes seats d → HaveLeftMore o.origin d e
@@ -281,6 +288,7 @@ AnInsertionIsBroken d e = (o : Since) (log : RunLog) (spans : List SpanFrom) (no
     IsInsertionIn o log spans e (record { accepted = a; withdrawn = None }) head → has_failed_in log a.second ≡ true
     → Ringed o log spans (notes ++ Accepts a ∷ []) (λ c. None) e
 
+-- so does a withdrawal,
 abbrev pub AWithdrawalIsBroken : (d e : Devices) → Type 0
 AWithdrawalIsBroken d e = (o : Since) (log : RunLog) (spans : List SpanFrom) (notes : List Note)
     (seats : Card → Option Seating) → Ringed o log spans notes seats d → HaveLeftMore o.origin d e
@@ -291,6 +299,7 @@ AWithdrawalIsBroken d e = (o : Since) (log : RunLog) (spans : List SpanFrom) (no
     → has_failed_in log w.second ≡ true →
     Ringed o log spans (notes ++ Withdraws w ∷ []) (λ c. None) e
 
+-- and so does a place.
 abbrev pub APlaceIsBroken : (d e : Devices) → Type 0
 APlaceIsBroken d e = (o : Since) (log : RunLog) (spans : List SpanFrom) (notes : List Note)
     (seats : Card → Option Seating) → Ringed o log spans notes seats d → HaveLeftMore o.origin d e

@@ -21,13 +21,13 @@ use Rattle.run_note_record.specs.Beside.{HaveLeftMore}
 use Rattle.run_note_record.specs.OnCards.{CardsStay}
 use Rattle.run_note_record.specs.Ringed.{Seating, Ringed, StaysInRings, notes_in, since_behind, since_at}
 
--- when a note was made
+-- the second in which a note was made
 abbrev pub noted_at : Note → ℕ
 noted_at (Accepts a) = a.second
 noted_at (Withdraws w) = w.second
 noted_at (Enters p) = p.second
 
--- these were made before a second
+-- these notes were made before a second
 abbrev pub AreEarlier : ℕ → List Note → Type 0
 AreEarlier u notes = AllByRecursion (λ (n : Note). noted_at n < u) notes
 
@@ -79,7 +79,7 @@ ASecondBeginsInRings d = (o : Origin) (done : List TraceSecond) (s : TraceSecond
     → IsSecond s (went log done).before t →
     RingedIn o done s log [] log spans base t seats d
 
--- CALLS THAT WRITE NO RING, and lines of later moments, leave it; and an action more that notes nothing.
+-- CALLS THAT WRITE NO RING, and lines of later moments, leave it so;
 abbrev pub RingsGoOn : (d e : Devices) → Type 0
 RingsGoOn d e = (o : Origin) (done : List TraceSecond) (s : TraceSecond) (began : RunLog) (front : List Action)
     (log later : RunLog) (spans : List SpanFrom) (base : ℕ) (t : ToldSecond) (seats fewer : Card → Option Seating) →
@@ -88,6 +88,7 @@ RingsGoOn d e = (o : Origin) (done : List TraceSecond) (s : TraceSecond) (began 
     → CardsStay o (with_second spans base t) d e → AreFewer seats fewer →
     RingedIn o done s began front later spans base t fewer e
 
+-- and so does an action more that notes nothing.
 abbrev pub AnActionNotesNothing : Devices → Type 0
 AnActionNotesNothing d = (o : Origin) (done : List TraceSecond) (s : TraceSecond) (began : RunLog) (front : List Action)
     (a : Action) (log : RunLog) (spans : List SpanFrom) (base : ℕ) (t : ToldSecond) (seats : Card → Option Seating) →
@@ -109,7 +110,7 @@ pub record GoesBehind (began later : RunLog) (done : List TraceSecond) : Type 0 
   pub same : All (λ (x : TraceSecond). SameAt began later x.number) done
   pub went_is : went later done ≡ went began done
 
--- THE SECOND ENDS behind all of its actions, and so do its notes; or at a cut, behind these.
+-- THE SECOND ENDS behind all of its actions, and so do its notes;
 abbrev pub TheSecondEndsInRings : Devices → Type 0
 TheSecondEndsInRings d = (o : Origin) (done : List TraceSecond) (s : TraceSecond) (began later : RunLog)
     (spans : List SpanFrom) (base : ℕ) (t : ToldSecond) (seats : Card → Option Seating) →
@@ -118,6 +119,7 @@ TheSecondEndsInRings d = (o : Origin) (done : List TraceSecond) (s : TraceSecond
     RingedBehind o (done ++ s ∷ []) later (suc s.number)
     (with_second spans base (second_told later (went later done).before s)) seats d
 
+-- or at a cut, behind these of its actions.
 abbrev pub ACutEndsInRings : Devices → Type 0
 ACutEndsInRings d = (o : Origin) (done : List TraceSecond) (s : TraceSecond) (began cut : RunLog)
     (front rest : List Action) (spans : List SpanFrom) (base : ℕ) (t : ToldSecond) (seats fewer : Card → Option Seating)

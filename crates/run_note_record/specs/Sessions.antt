@@ -32,13 +32,13 @@ accepted_then false failed was u = was
 accepted_then true false was u = u ∷ []
 accepted_then true true was u = was ++ 0 ∷ [] ++ u ∷ []
 
--- and behind a withdrawal of none
+-- behind a withdrawal it tells of none; where a call failed, or of one that it may have told
 abbrev pub withdrawn_then : (mine failed : Bool) → List ℕ → List ℕ
 withdrawn_then false failed was = was
 withdrawn_then true false was = 0 ∷ []
 withdrawn_then true true was = was ++ 0 ∷ []
 
--- so by one note more
+-- the sessions that a card may tell behind one note more
 abbrev pub told_with : RunLog → Card → List ℕ → Note → List ℕ
 told_with log c was (Accepts a) = accepted_then (same_card a.card c) (has_call_failed_in log a.second) was a.second
 told_with log c was (Withdraws w) = withdrawn_then (same_card w.card c) (has_failed_in log w.second) was
@@ -93,10 +93,11 @@ abbrev pub OpensIn : RunLog → Acceptance → Card → ℕ → Type 0
 OpensIn log a c t = (same_card a.card c ≡ true)
     × ((t ≡ a.second) ⊎ ((t ≡ 0) × (has_call_failed_in log a.second ≡ true)))
 
--- the session of a card is ended; where it had one
+-- the session of a card is ended
 abbrev pub Ends : Card → Card → ℕ → Type 0
 Ends card c t = (same_card card c ≡ true) × (t ≡ 0)
 
+-- it is ended where the card had one
 abbrev pub EndsIf : (had : Bool) → Card → Card → ℕ → Type 0
 EndsIf had card c t = (had ≡ true) × Ends card c t
 

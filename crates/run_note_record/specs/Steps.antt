@@ -50,7 +50,7 @@ pub record IsCutIn (began log cut : RunLog) (done : List TraceSecond) (s : Trace
 abbrev pub spans_cut : List SpanFrom → (base : ℕ) → RunLog → List TraceSecond → TraceSecond → List SpanFrom
 spans_cut spans base log done s = with_second spans base (second_told log (went log done).before s)
 
--- none is accepted
+-- no card is accepted
 abbrev pub nobody : Card → Option Seating
 nobody c = None
 
@@ -69,6 +69,7 @@ AnActionPasses d e = (o : Origin) (done : List TraceSecond) (s : TraceSecond) (b
     → CardsGo o (with_second spans base t) (FailsBy began done later s (front ++ a ∷ [])) d e → AreFewer seats fewer →
     RingedIn o done s began (front ++ a ∷ []) later spans base t fewer e
 
+-- or the unit fails in such an action, and power is cut.
 abbrev pub AnActionIsCut : (d e : Devices) → Type 0
 AnActionIsCut d e = (o : Origin) (done : List TraceSecond) (s : TraceSecond) (began log cut : RunLog)
     (front : List Action) (a : Action) (rest : List Action) (spans : List SpanFrom) (base : ℕ) (t : ToldSecond)
@@ -102,6 +103,7 @@ APlaceIsEntered d e = (o : Origin) (done : List TraceSecond) (s : TraceSecond) (
     → AreFewer seats fewer →
     RingedIn o done s began (front ++ Place slot ending country region ∷ []) later spans base t fewer e
 
+-- or the unit fails in that, and power is cut: the place stands, or does not.
 abbrev pub APlaceIsCut : (d e : Devices) → Type 0
 APlaceIsCut d e = (o : Origin) (done : List TraceSecond) (s : TraceSecond) (began log cut : RunLog)
     (front rest : List Action) (spans : List SpanFrom) (base : ℕ) (t : ToldSecond) (seats : Card → Option Seating) →
@@ -142,6 +144,7 @@ ACardIsWithdrawn d e = (o : Origin) (done : List TraceSecond) (s : TraceSecond) 
     → Shuts o later (record { second = s.number; card = x.card }) e → AreFewer now fewer →
     RingedIn o done s began (front ++ Withdraw slot ∷ []) later spans base t fewer e
 
+-- or the unit fails in that, and power is cut: the withdrawal stands, or does not.
 abbrev pub AWithdrawalIsCut : (d e : Devices) → Type 0
 AWithdrawalIsCut d e = (o : Origin) (done : List TraceSecond) (s : TraceSecond) (began log cut : RunLog)
     (front rest : List Action) (spans : List SpanFrom) (base : ℕ) (t : ToldSecond) (seats : Card → Option Seating) →
@@ -156,7 +159,7 @@ AWithdrawalIsCut d e = (o : Origin) (done : List TraceSecond) (s : TraceSecond) 
     → CardsGo o (with_second spans base t) (Ends x.card) d e →
     RingedBehind o (done ++ s ∷ []) cut (suc s.number) (spans_cut spans base cut done s) nobody e
 
--- A CARD IS PUT IN AND ACCEPTED.
+-- A CARD IS PUT IN AND ACCEPTED;
 abbrev pub ACardIsAccepted : (d e : Devices) → Type 0
 ACardIsAccepted d e = (o : Origin) (done : List TraceSecond) (s : TraceSecond) (began log later : RunLog)
     (front : List Action) (spans : List SpanFrom) (base : ℕ) (t : ToldSecond) (seats now fewer : Card → Option Seating)
@@ -173,6 +176,7 @@ ACardIsAccepted d e = (o : Origin) (done : List TraceSecond) (s : TraceSecond) (
     → Opens o later (record { second = s.number; slot = slot; card = card }) e → AreFewer now fewer →
     RingedIn o done s began (front ++ Insert slot card ∷ []) later spans base t fewer e
 
+-- or the unit fails in that, and power is cut: the insertion stands, or does not.
 abbrev pub AnAcceptanceIsCut : (d e : Devices) → Type 0
 AnAcceptanceIsCut d e = (o : Origin) (done : List TraceSecond) (s : TraceSecond) (began log cut : RunLog)
     (front rest : List Action) (spans : List SpanFrom) (base : ℕ) (t : ToldSecond) (seats : Card → Option Seating) →

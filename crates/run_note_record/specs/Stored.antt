@@ -23,7 +23,7 @@ pub record IsFoundEnd (log : RunLog) (unfound : ℕ) (s : SpanFrom) : Type 0 whe
   pub cut : cut_second (last s.span) ≡ Some second
   pub known : tells_cut second (take unfound log.breaks) ≡ true
 
--- or it is not known yet
+-- a span has ended with a cut, and it is not known yet what was kept after it
 pub record IsOpenEnd (log : RunLog) (unfound : ℕ) (s : SpanFrom) : Type 0 where
   pub second : ℕ
   pub cut : cut_second (last s.span) ≡ Some second
@@ -71,7 +71,7 @@ pub record StoresOff (o : Origin) (log : RunLog) (unfound : ℕ) (spans : List S
   pub stores : (x : List ℕ) → d.unit.may_leave x
       → MayStore (rule_of o) (odometer_at o.recording.unit) (first_of o) spans (last_kept x) (odometer_at x)
 
--- by the power
+-- while there is power, or without it
 abbrev pub Stores : (lit : Bool) → (o : Origin) (log : RunLog) (unfound base : ℕ) (spans : List SpanFrom) (d : Devices)
     → Type 0
 Stores true o log unfound base spans d = StoresOn o log unfound base spans

@@ -32,24 +32,25 @@ left_open u None = u
 left_open u (Some w) = 0
 
 module _ (own : Registration) where
-  -- the use that it leaves, in this vehicle
+  -- the use that an insertion leaves, in its vehicle
   abbrev pub left_by : InsertionNote → CurrentUse
   left_by i = record { session = record { 0 = left_open i.accepted.second i.withdrawn }; registration = own }
 
-  -- that which these leave, one after another, where the first found this one
+  -- the use that these insertions leave one after another, where the first of them found this one
   abbrev pub use_behind : CurrentUse → List InsertionNote → CurrentUse
   use_behind held [] = held
   use_behind held (i ∷ is) = use_behind (left_by i) is
 
-  -- and those that they found, one each
+  -- the uses that these insertions found, one each
   abbrev pub uses_from : CurrentUse → List InsertionNote → List CurrentUse
   uses_from held [] = []
   uses_from held (i ∷ is) = held ∷ uses_from (left_by i) is
 
--- the vehicle of a unit, and the use of a card, by their images
+-- the vehicle of a unit, by its image
 abbrev pub vehicle_of : List ℕ → Registration
 vehicle_of x = record { 0 = bytes_at x REGISTRATION.place REGISTRATION.size }
 
+-- the current use of a card, by its image
 abbrev pub use_in : List ℕ → CurrentUse
 use_in x = current_use (own_sizes x) x
 
@@ -57,18 +58,20 @@ use_in x = current_use (own_sizes x) x
 abbrev pub insertions_on : Card → List Note → List InsertionNote
 insertions_on c notes = filter (λ (i : InsertionNote). same_card c i.accepted.card) (insertions_of notes)
 
--- an insertion that goes on; and a card of which this was found in a second, in this order, is inserted so often
+-- an insertion that goes on: it is not withdrawn
 abbrev pub inserted : (second : ℕ) → Slot → Card → InsertionNote
 inserted u slot card = record { accepted = record { second = u; slot = slot; card = card }; withdrawn = None }
 
+-- the insertions of a card of which this was found in a second, in this order: one for each acceptance
 abbrev pub insertions_at : (second : ℕ) → Slot → Card → List Verdict → List InsertionNote
 insertions_at u slot card verdicts = map (λ (v : Verdict). inserted u slot card) (filter is_accepting verdicts)
 
--- ALL USES THAT WERE FOUND on a card in a run, one for each of its insertions, and the one that the last has left
+-- ALL USES THAT WERE FOUND on a card in a run, one for each of its insertions,
 abbrev pub uses_on : Recording → Card → List CurrentUse
 uses_on r c = uses_from (vehicle_of r.unit) (use_in (card_image r c))
     (insertions_on c (notes_of r.log (done_of r.log r.trace)))
 
+-- and the use that the last of them has left
 abbrev pub use_left : Recording → Card → CurrentUse
 use_left r c = use_behind (vehicle_of r.unit) (use_in (card_image r c))
     (insertions_on c (notes_of r.log (done_of r.log r.trace)))
@@ -79,11 +82,12 @@ use_left r c = use_behind (vehicle_of r.unit) (use_in (card_image r c))
 abbrev pub times_of : List CurrentUse → List ℕ
 times_of uses = map (λ (held : CurrentUse). held.session.0) uses
 
--- those that were found on a card, one for each acceptance: in a second, and in several
+-- the session times that were found on a card in a second, one for each acceptance
 abbrev pub opened_in : Card → (ℕ → Visit → ℕ) → ToldSecond → List ℕ
 opened_in c sessions t = flat_map (λ (f : Visit × Verdict). if same_card c f.0.card && is_accepting f.1 then sessions
     t.second.number f.0 ∷ [] else []) t.course.found
 
+-- and in several seconds
 abbrev pub opened_on : Card → (ℕ → Visit → ℕ) → List ToldSecond → List ℕ
 opened_on c sessions told = flat_map (opened_in c sessions) told
 
@@ -101,10 +105,11 @@ TellExactly r began sessions = (c : Card) → NothingFailedOn r c began → IsOw
 
 -- ---- as a run carries them
 
--- what a run has noted behind these seconds, and what one second more notes
+-- what a run has noted behind these seconds
 abbrev pub notes_in : RunLog → List TraceSecond → List Note
 notes_in log ss = notes_of log (done_of log ss)
 
+-- what one second more notes
 abbrev pub noted_next : RunLog → List TraceSecond → TraceSecond → List Note
 noted_next log ss s = noted_in log (done_by log (went log ss).before s)
 
@@ -112,13 +117,15 @@ noted_next log ss s = noted_in log (done_by log (went log ss).before s)
 abbrev pub notes_now : (began : RunLog) → List TraceSecond → (log : RunLog) → TraceSecond → List Note
 notes_now began done log s = notes_in began done ++ noted_in log (done_by log (went began done).before s)
 
--- the vehicle of the run, the use of a card at its start, and those that these notes found on it and left
+-- the vehicle of the run
 abbrev pub vehicle_in : Origin → Registration
 vehicle_in o = vehicle_of o.recording.unit
 
+-- the uses that these notes found on a card, one for each of its insertions
 abbrev pub uses_in : Origin → Card → List Note → List CurrentUse
 uses_in o c notes = uses_from (vehicle_in o) (use_in (card_image o.recording c)) (insertions_on c notes)
 
+-- the use that these notes left on a card
 abbrev pub use_now : Origin → Card → List Note → CurrentUse
 use_now o c notes = use_behind (vehicle_in o) (use_in (card_image o.recording c)) (insertions_on c notes)
 

@@ -1,3 +1,4 @@
+//! The events that a run has noted, from second to second: laws.
 ghost use Rattle.run_devices.specs.run_promise.Between.{devices};
 ghost use Rattle.run_note_record.specs.Evented.{EventsStay, EventsAreFound, ASecondIsNoted, ASecondIsBroken};
 ghost use Rattle.run_note_record.specs.Evented.{APowerOnIsBroken, ADarkSecondBringsNothing, AnOffCutBringsNothing};

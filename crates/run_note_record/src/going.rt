@@ -1,3 +1,4 @@
+//! Seconds of a run that bring no event: laws.
 ghost use Rattle.run_devices.specs.run_promise.Between.{devices};
 ghost use Rattle.run_note_record.specs.Going.{DarkSecondsBringNothing, AnOffLineBringsNothing};
 ghost use Rattle.run_note_record.specs.Going.{AnOffLineCutsAndBringsNothing, QuietSecondsBringNothing};

@@ -1,3 +1,4 @@
+//! The rings of insertions and places, from note to note: laws.
 ghost use Rattle.std.specs.Prelude.{◌≡◌, All, List, [], ◌∷◌, ◌++◌};
 ghost use Rattle.run_devices.specs.trace_model.Trace.{TraceSecond};
 ghost use Rattle.run_devices.specs.log_model.Log.{RunLog};

@@ -1,3 +1,4 @@
+//! What each step within a second adds to its events: laws.
 ghost use Rattle.run_devices.specs.run_promise.Between.{devices};
 ghost use Rattle.run_note_record.specs.EventsSoFar.{StepsFollow, ASecondBegins, ASecondEnds, ATearAdds, AFindAdds};
 ghost use Rattle.run_note_record.specs.EventsSoFar.{AWakingTearAdds, AnInterruptionAdds, ARefusalAddsNothing};

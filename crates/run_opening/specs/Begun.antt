@@ -41,6 +41,7 @@ abbrev pub named_by : (bad : Option (Fid × ℕ)) → (number none : List ℕ) �
 named_by None number none = number
 named_by (Some place) number none = none
 
+-- the name of a card by this image: its number where the card is valid
 abbrev pub name_of : Card → List ℕ → List ℕ
 name_of c x = named_by (own_bad_file x) (own_number x) (no_number c)
 
@@ -100,6 +101,7 @@ IsRefusedBy r start old new (SameCard number) =
     Decodes r.unit × (last_kept r.unit < start / 60)
     × ((c : Card) → IsOwnValid (card_image r c) × (own_number (card_image r c) ≡ card_number_bytes number))
 
+-- WHAT THE OPENING ENDS WITH: the run begins, or it is refused
 abbrev pub IsBegun : Recording → (start : ℕ) → (old new : Devices) → Result Opened RunFault → Type 0
 IsBegun r start old new (Ok opened) = RunIsOpened r start opened old new
 IsBegun r start old new (Err fault) = IsRefusedBy r start old new fault

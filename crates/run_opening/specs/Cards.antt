@@ -54,7 +54,7 @@ IsMediumFault device fault = fault ≡ MediumFault device
 abbrev pub AreTwo : (a b : Option FullCardNumber) → Type 0
 AreTwo a b = (n : FullCardNumber) → a ≡ Some n → b ≡ Some n → ⊥
 
--- they do, and this is it
+-- two cards have one number, which the fault tells
 abbrev pub IsOneNumber : (a b : Option FullCardNumber) → RunFault → Type 0
 IsOneNumber a b (MediumFault device) = ⊥
 IsOneNumber a b (BadUnit place) = ⊥

@@ -17,7 +17,7 @@ pub record IsLoaded (unit : State) (journal : Notes) : Type 0 where
   pub decodes : IfSome unit.image Decodes
   pub found : IfSome unit.image (IsFoundBy journal)
 
--- it was not: a call failed, or the image does not decode, first at this place
+-- a unit was not loaded: a call failed, or the image does not decode, first at this place
 abbrev pub IsNotLoaded : (old new : State) → UnitFault → Type 0
 IsNotLoaded old new Failed = Rose old.faults new.faults
 IsNotLoaded old new (Bad place) = IfSome new.image (λ x. first_bad_place x ≡ Some place)
@@ -27,7 +27,7 @@ abbrev pub HasBrokenDown : (old new : State) → UnitFault → Type 0
 HasBrokenDown old new Failed = Rose old.breakdowns new.breakdowns
 HasBrokenDown old new (Bad place) = Unit {0}
 
--- how the opening tells it
+-- how the opening tells why a unit was not loaded
 abbrev pub opening_fault : UnitFault → RunFault
 opening_fault Failed = MediumFault Recorder
 opening_fault (Bad place) = BadUnit place

@@ -81,6 +81,10 @@ pub fn judge_card<C: Chip>(card: &mut C, device: Device) -> Result<Known, RunFau
 }
 
 /// That the cards do not both have one number.
+///
+/// # Errors
+///
+/// `SameCard` exactly where both have one, with that number.
 pub(crate) fn judge_numbers(a: &Known, b: &Known) -> Result<(), RunFault>
     ensures two { OnOk result (AreTwo a.now.number b.now.number) }
     ensures one { IfErr result (IsOneNumber a.now.number b.now.number) }

@@ -24,13 +24,7 @@ pub struct OpenedUnit {
     pub memory: UnitMemory,
 }
 
-/// Revives the unit and judges it; it writes nothing.
-///
-/// # Errors
-///
-/// 1. `Failed` where the unit failed.
-/// 2. `BadUnit` exactly where its image does not decode, with the place of the first field, in order of places, that
-///    fails.
+// Revives the unit and judges it; it writes nothing.
 fn load<M: Medium>(unit: &mut M) -> Result<Journal, UnitFault>
     requires unit { (M.state unit.old).size ≡ IMAGE_SIZE }
     ensures loaded { IfOk result (IsLoaded (M.state unit.new)) }
@@ -46,6 +40,12 @@ fn load<M: Medium>(unit: &mut M) -> Result<Journal, UnitFault>
 
 /// Revives the unit, judges it, and reads what it was told of the vehicle, and its rule; it writes nothing. No line
 /// tells a failure here but the caller's.
+///
+/// # Errors
+///
+/// 1. `Failed` where the unit failed.
+/// 2. `BadUnit` exactly where its image does not decode, with the place of the first field, in order of places, that
+///    fails: in bytes, from 0.
 pub fn open_unit<M: Medium>(unit: &mut M) -> Result<OpenedUnit, UnitFault>
     requires unit { (M.state unit.old).size ≡ IMAGE_SIZE }
     ensures loaded { IfOk result (λ opened. IsLoaded (M.state unit.new) opened.journal) }

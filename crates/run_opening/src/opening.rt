@@ -22,35 +22,6 @@ pub struct Opened {
     pub card_b: Known,
 }
 
-// Judges the devices one after the other.
-fn judge_each<M: Medium, C: Chip, D: Chip>(
-    unit: &mut M,
-    card_a: &mut C,
-    card_b: &mut D,
-    start: u32,
-) -> Result<Opened, RunFault>
-    requires sized { AreSized (devices (M.state unit.old) (C.state card_a.old) (D.state card_b.old)) }
-    ensures found { IfOk result (DevicesAreFound start (M.state unit.new) (C.state card_a.new) (D.state card_b.new)
-        (C.card card_a.new) (D.card card_b.new)) }
-    ensures refused { IfErr result (IsRefused start
-        (devices (M.state unit.old) (C.state card_a.old) (D.state card_b.old))
-        (devices (M.state unit.new) (C.state card_a.new) (D.state card_b.new))) }
-    ensures same { DevicesAreAsTheyWere (devices (M.state unit.old) (C.state card_a.old) (D.state card_b.old))
-        (devices (M.state unit.new) (C.state card_a.new) (D.state card_b.new)) }
-    ensures works { OnOk result (DevicesWork (devices (M.state unit.old) (C.state card_a.old) (D.state card_b.old))
-        (devices (M.state unit.new) (C.state card_a.new) (D.state card_b.new))) }
-{
-    let opened = judge_unit(unit, start)?;
-    let a = judge_card(card_a, Device::CardA)?;
-    let b = judge_card(card_b, Device::CardB)?;
-    judge_numbers(&a, &b)?;
-    Ok(Opened {
-        unit: opened,
-        card_a: a,
-        card_b: b,
-    })
-}
-
 /// Judges the devices of a run that begins at this second: the unit, the clock, both cards, and that they are two. It
 /// writes nothing.
 ///
@@ -79,5 +50,13 @@ pub fn judge<M: Medium, C: Chip, D: Chip>(
         IsBegun r start (devices (M.state unit.old) (C.state card_a.old) (D.state card_b.old))
         (devices (M.state unit.new) (C.state card_a.new) (D.state card_b.new)) result }
 {
-    judge_each(unit, card_a, card_b, start)
+    let opened = judge_unit(unit, start)?;
+    let a = judge_card(card_a, Device::CardA)?;
+    let b = judge_card(card_b, Device::CardB)?;
+    judge_numbers(&a, &b)?;
+    Ok(Opened {
+        unit: opened,
+        card_a: a,
+        card_b: b,
+    })
 }

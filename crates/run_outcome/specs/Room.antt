@@ -8,13 +8,13 @@ use Rattle.trace_model.specs.Trace.{total_seconds}
 use Rattle.run_outcome.specs.declared.outcome.Outcome.{Outcome}
 use Rattle.run_outcome.specs.declared.outcome.TheConstants.{MOST_OWED}
 
--- seconds without power
+-- a line of seconds without power
 abbrev pub is_off : Item → Bool
 is_off (Run seconds speed) = false
 is_off (Off seconds) = true
 is_off (Act action) = false
 
--- a card is put into a slot
+-- an action puts a card into a slot
 abbrev pub puts_in : Action → Bool
 puts_in (Select slot pick) = false
 puts_in (Insert slot card) = true
@@ -23,6 +23,7 @@ puts_in (Tear slot) = false
 puts_in (Place slot ending country region) = false
 puts_in (Manual slot pick minute) = false
 
+-- a line is such an action
 abbrev pub is_insertion : Item → Bool
 is_insertion (Run seconds speed) = false
 is_insertion (Off seconds) = false
@@ -32,13 +33,15 @@ is_insertion (Act action) = puts_in action
 abbrev pub off_count : Item → ℕ
 off_count item = if is_off item then 1 else 0
 
+-- how many `off` lines these are
 abbrev pub offs : List Item → ℕ
 offs items = count_by is_off items
 
--- and how many insertions
+-- how many insertions an item is
 abbrev pub insertion_count : Item → ℕ
 insertion_count item = if is_insertion item then 1 else 0
 
+-- how many insertions these are
 abbrev pub insertions : List Item → ℕ
 insertions items = count_by is_insertion items
 

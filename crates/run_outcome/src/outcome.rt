@@ -10,16 +10,20 @@ use std::alloc::Global;
 use tach_media::Memory;
 use trace_text::{Action, Item, Items, Trace};
 
-/// So many entries may be owed to a card.
+/// How many entries may be owed to a card at most.
 pub const MOST_OWED: usize = 4;
 
 /// The lines of a run, each list in order of time: what the devices have acknowledged, where power was lost or a card
 /// torn out, which actions were refused, and what insertions found.
 #[derive(Drop)]
 pub struct Outcome {
+    /// The minutes that devices have acknowledged.
     pub marks: Lines<Mark>,
+    /// The seconds in which power was lost or a card torn out.
     pub breaks: Lines<Break>,
+    /// The actions that were refused.
     pub refused: Lines<Refused>,
+    /// What insertions found, and power-ons of the cards in the slots.
     pub finds: Lines<Find>,
 }
 

@@ -32,6 +32,7 @@ pub record CardsTold : Type 0 where
   pub entered : List Visit
   pub found : List (Visit × Verdict)
 
+-- of all that a second tells what it tells of cards
 abbrev pub cards_of : ToldSecond → CardsTold
 cards_of t = record { number = t.second.number; entered = t.course.entered; found = t.course.found }
 
@@ -54,10 +55,11 @@ MayBeFound o done log marks d t e v =
     ((card_of d e.card).left_since (found_of o.found e.card).began) e.card t.second.number v
     × BringsAll (recording_by o done log) marks e.card t.second.number v
 
--- how often a card entered in some seconds, and how often it was found to tell of a later time
+-- the times that a card entered a slot in a second, or met power there
 abbrev pub entered_in : Card → ToldSecond → List Visit
 entered_in c t = filter (λ e. same_card c e.card) t.course.entered
 
+-- the times that it was found to tell of a later time in that second
 abbrev pub overlaps_in : Recording → Card → ToldSecond → List (Visit × Verdict)
 overlaps_in r c t = filter (λ f. same_card c f.0.card && is_overlap r c f.1) t.course.found
 
@@ -66,7 +68,7 @@ abbrev pub AreFewer : Recording → List ToldSecond → Type 0
 AreFewer r more = AllByRecursion (λ (t : ToldSecond). (c : Card) → length (overlaps_in r c t) ≤ length (entered_in c t))
     more
 
--- no card entered in these seconds
+-- no card enters in these seconds, and nothing is found of one
 abbrev pub AreIdle : List ToldSecond → Type 0
 AreIdle more = AllByRecursion (λ (t : ToldSecond). (t.course.entered ≡ []) × (t.course.found ≡ [])) more
 
@@ -85,7 +87,7 @@ FoundTellsNoMore = (o : Origin) (done : List TraceSecond) (p : Progress)
     TellsMore (went p.log done).told (went (record p.log { breaks = found_from p.unfound k p.log.breaks }) done).told []
     p.next
 
--- quiet seconds, and dark ones: no card enters.
+-- quiet seconds, in which no card enters,
 abbrev pub QuietSecondsTellMore : Type 0
 QuietSecondsTellMore = (o : Origin) (done : List TraceSecond) (p : Progress)
     → BookFollowsRun (rule_of o) (start_at o) o.from (first_of o) done p → (t : ToldSecond) (span : List ToldSecond)
@@ -93,6 +95,7 @@ QuietSecondsTellMore = (o : Origin) (done : List TraceSecond) (p : Progress)
     (more : List ToldSecond) × TellsMore (went p.log done).told (went p.log (done ++ driven n p.next speed [])).told
     more p.next × AreIdle more
 
+-- seconds without power up to a minute's end,
 abbrev pub DarkSecondsTellMore : Type 0
 DarkSecondsTellMore = (o : Origin) (done : List TraceSecond) (p : Progress)
     → BookFollowsRun (rule_of o) (start_at o) o.from (first_of o) done p → p.supply ≡ Lost
@@ -102,12 +105,14 @@ DarkSecondsTellMore = (o : Origin) (done : List TraceSecond) (p : Progress)
     (went (record p.log { refused = refused }) (done ++ driven n p.next speed actions)).told more p.next
     × AreIdle more
 
+-- an `off` line,
 abbrev pub AnOffLineTellsMore : Type 0
 AnOffLineTellsMore = (o : Origin) (done : List TraceSecond) (p : Progress)
     → BookFollowsRun (rule_of o) (start_at o) o.from (first_of o) done p → (n : ℕ) →
     (more : List ToldSecond) × TellsMore (went p.log done).told (went p.log (done ++ dark n p.next)).told more p.next
     × AreIdle more
 
+-- and one that cuts the power.
 abbrev pub AnOffCutTellsMore : Type 0
 AnOffCutTellsMore = (o : Origin) (done : List TraceSecond) (p : Progress)
     → BookFollowsRun (rule_of o) (start_at o) o.from (first_of o) done p → (t : ToldSecond) (span : List ToldSecond)
@@ -142,13 +147,15 @@ abbrev pub IsSparedOn : Origin → List TraceSecond → RunLog → (d e : Device
 IsSparedOn o now later d e = (c : Card) → IsUntouched (found_of o.found c) (card_of d c)
     → IsUntouched (found_of o.found c) (card_of e c) ⊎ MayBeWritten (recording_by o now later) c
 
--- WHICH CARDS MAY BE WRITTEN may be written from then on;
+-- WHICH CARDS MAY BE WRITTEN may be written still, and no other is written, behind seconds in which cards are found to
+-- tell of a later time no more often than they enter,
 abbrev pub CardsAreSpared : (d e : Devices) → Type 0
 CardsAreSpared d e = (o : Origin) (done now : List TraceSecond) (log later : RunLog) (more : List ToldSecond) (from : ℕ)
     → AreSpared o done log d → TellsMore (went log done).told (went later now).told more from
     → AreFewer o.recording more →
     IsSparedOn o now later d e → AreSpared o now later e
 
+-- and behind seconds in which no card enters.
 abbrev pub IdleCardsAreSpared : (d e : Devices) → Type 0
 IdleCardsAreSpared d e = (o : Origin) (done now : List TraceSecond) (log later : RunLog) (more : List ToldSecond)
     (from : ℕ) → AreSpared o done log d → TellsMore (went log done).told (went later now).told more from → AreIdle more
@@ -164,7 +171,7 @@ FewerAreFound = (r : Recording) (t : ToldSecond)
 abbrev pub AreFewFound : Recording → Type 0
 AreFewFound r = (c : Card) → overlaps r c ≤ entered r c
 
--- AND SO IT IS from then on.
+-- AND SO IT IS behind further seconds of which that is so.
 abbrev pub FewAreFoundOn : Type 0
 FewAreFoundOn = (o : Origin) (done now : List TraceSecond) (log later : RunLog) (more : List ToldSecond) (from : ℕ)
     → AreFewFound (recording_by o done log) → TellsMore (went log done).told (went later now).told more from

@@ -118,13 +118,13 @@ pub record FirstKeep : Type 0 where
   pub mark : Mark
   pub hands : List Manual
 
--- those of sessions, with that of a keep: one more, where its session had kept no minute before
+-- the first keeps of sessions with that of a keep more: one more, where its session had kept no minute before
 abbrev pub and_first : (begun : Option ℕ) → FirstKeep → List FirstKeep → List FirstKeep
 and_first None first firsts = firsts ++ first ∷ []
 and_first (Some minute) first firsts = firsts
 
--- each of them is among those that are sure; and every image since its mark whose days have that of the mark tells its
--- entries by hand
+-- its entries by hand are among those that are sure; and every image since its mark whose days have that of the mark
+-- tells them
 pub record IsFirstHeld (f : CardFound) (h : Hands) (card : State) (k : FirstKeep) : Type 0 where
   pub clock : k.mark.clock ≤ card.clock
   pub day : AreOfDay (k.mark.minute / 1440) k.hands
@@ -132,6 +132,7 @@ pub record IsFirstHeld (f : CardFound) (h : Hands) (card : State) (k : FirstKeep
   pub told : (x : List ℕ) → card.left_since k.mark.clock x → HasDayOf k.mark.minute (own_sizes f.image) x
       → All (λ e. Contains (by_hand_in (own_sizes f.image) x) e) k.hands
 
+-- so it is of each first keep of a card
 abbrev pub HandMarksHold : CardFound → Hands → List FirstKeep → State → Type 0
 HandMarksHold f h firsts card = All (IsFirstHeld f h card) firsts
 

@@ -39,7 +39,7 @@ use Rattle.run_promise.specs.Whole.{IsWhole}
 abbrev pub recording_by : Origin → List TraceSecond → RunLog → Recording
 recording_by o done log = so_far o.recording done log
 
--- and with what sessions refused of entries by hand
+-- the same with what sessions refused of entries by hand
 abbrev pub recording_with : Origin → List TraceSecond → RunLog → (stops : List Refused) → Recording
 recording_with o done log stops = record (recording_by o done log) { stops = stops }
 

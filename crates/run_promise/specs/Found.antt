@@ -32,6 +32,7 @@ pub record Found : Type 0 where
   pub card_a : CardFound
   pub card_b : CardFound
 
+-- what was found of one of the cards
 abbrev pub found_of : Found → Card → CardFound
 found_of f A = f.card_a
 found_of f B = f.card_b

@@ -81,7 +81,7 @@ ASecondIsAccounted = (r : Recording) (c : Card) (from first : ℕ) (done : List 
     →
     AreAccounted r c first done p ks → AreAccounted r c first (done ++ s ∷ []) q more
 
--- what is sure then
+-- WHAT IS SURE behind a second: what was so before it, and the minutes that it kept
 abbrev pub KeptMinutesAreSure : Type 0
 KeptMinutesAreSure = (front : List HistoryMinute) (i : Option HistoryMinute) (b : Book)
     → (broken_at i (kept_all front b)).sure ≡ b.sure ++ front

@@ -26,12 +26,15 @@ pub record Origin : Type 0 where
   pub from : ℕ
   pub breakdowns : Device → ℕ
 
+-- the rule of minutes of the run
 abbrev pub rule_of : Origin → Rule
 rule_of o = o.recording.rule
 
+-- what both cards bring to it
 abbrev pub start_at : Origin → Start
 start_at o = start_of o.recording
 
+-- the last-kept minute of the unit at its start
 abbrev pub first_of : Origin → ℕ
 first_of o = last_kept o.recording.unit
 

@@ -31,10 +31,11 @@ use Rattle.run_course.specs.Moment.{Moment}
 use Rattle.run_course.specs.Telling.{IsMore, begun_by, IsLeft}
 use Rattle.run_promise.specs.Origin.{Origin, rule_of, start_at, first_of, HistoryIsRecorded}
 
--- AT THE START nothing is recorded.
+-- a log that tells nothing
 abbrev pub empty_log : RunLog
 empty_log = record { breaks = []; refused = []; finds = [] }
 
+-- how far a run has gone before its first second
 abbrev pub at_start : Origin → Progress
 at_start o = record {
   log = empty_log;
@@ -46,11 +47,12 @@ at_start o = record {
   waiting = [];
 }
 
+-- AT THE START nothing is recorded.
 abbrev pub NothingIsRecorded : Type 0
 NothingIsRecorded = (o : Origin) → first_of o < o.from / 60
     → HistoryIsRecorded o [] (at_start o) (not_travelled o.recording.unit) [] o.breakdowns (λ c. [])
 
--- POWER IS BACK: the last-kept minute is found, and what was travelled.
+-- how far a run has gone once this last-kept minute is found
 abbrev pub found_again : (k : ℕ) → Progress → Progress
 found_again k p = record p {
   log = record p.log { breaks = found_from p.unfound k p.log.breaks };
@@ -60,6 +62,7 @@ found_again k p = record p {
   waiting = [];
 }
 
+-- POWER IS BACK: the last-kept minute is found, and what was travelled up to it.
 abbrev pub WhatWasKeptIsFound : Type 0
 WhatWasKeptIsFound = (o : Origin) (done : List TraceSecond) (p : Progress) (g : Travel) (marks : List Mark)
     (now : Device → ℕ) (brought : Card → List ℕ) → HistoryIsRecorded o done p g marks now brought →
@@ -79,7 +82,7 @@ AreTaken o old later t new brought more = (c : Card) → IsOwnValid (card_image 
     → ((k : ℕ) → Contains (brought c) k → Contains (more c) k)
     × ((acceptances_in c t ≡ []) ⊎ ((k : ℕ) × Contains (more c) k × IsTakenAt (first_of o) old later new k))
 
--- ONE SECOND MORE with power: all that it decides is kept.
+-- how far a run has gone behind a second with power, of whose minutes these were kept
 abbrev pub went_on : (log : RunLog) → List TraceSecond → TraceSecond → (span : List ToldSecond)
     → (new : List HistoryMinute) → Progress → Progress
 went_on log done s span new p = record {
@@ -97,6 +100,7 @@ abbrev pub seated_now : Origin → RunLog → List TraceSecond → TraceSecond �
 seated_now o log done s p ds = minutes_after (start_at o) ((went p.log done).told ++ next_told log done s ∷ [])
     p.book.sure ds
 
+-- ONE SECOND MORE with power: all that it decides is kept.
 abbrev pub ASecondIsRecorded : Type 0
 ASecondIsRecorded = (o : Origin) (done : List TraceSecond) (p : Progress) (g : Travel) (marks more : List Mark)
     (mid now : Device → ℕ) (brought taken : Card → List ℕ) → HistoryIsRecorded o done p g marks mid brought →
@@ -110,7 +114,7 @@ ASecondIsRecorded = (o : Origin) (done : List TraceSecond) (p : Progress) (g : T
     AreTaken o p.book (kept_all new p.book) (next_told log done s) new brought taken →
     HistoryIsRecorded o (done ++ s ∷ []) (went_on log done s span new p) (all_travelled ds g) more now taken
 
--- OR IT IS A CUT'S: the first of them are kept, and one more may be, or none was begun.
+-- how far a run has gone behind the second of a cut, of whose minutes these were kept, and one more may be
 abbrev pub broke_off : (log : RunLog) → TraceSecond → (front : List HistoryMinute) → Option HistoryMinute → Progress
     → Progress
 broke_off log s front i p = record {
@@ -130,6 +134,7 @@ seated_next o log done s p front d =
     option_map {T = Minute} (seated (start_at o) ((went p.log done).told ++ next_told log done s ∷ [])
     (p.book.sure ++ seated_now o log done s p front)) d
 
+-- OR IT IS A CUT'S: the first of its minutes are kept, and one more may be, or none was begun.
 abbrev pub ASecondIsBroken : Type 0
 ASecondIsBroken = (o : Origin) (done : List TraceSecond) (p : Progress) (g : Travel) (marks more : List Mark)
     (mid now later : Device → ℕ) (brought taken : Card → List ℕ) → HistoryIsRecorded o done p g marks mid brought →
@@ -147,7 +152,7 @@ ASecondIsBroken = (o : Origin) (done : List TraceSecond) (p : Progress) (g : Tra
     HistoryIsRecorded o (done ++ s ∷ []) (broke_off cut_log s kept i p) (stranded_at d (all_travelled front g)) more
     later taken
 
--- A POWER-ON FAILS at once, in the second with which power came.
+-- how far a run has gone behind a second in which the power-on failed
 abbrev pub failed_on : TraceSecond → Progress → Progress
 failed_on s p = record {
   log = and_break p.log (cut_at s.number true 0);
@@ -159,6 +164,7 @@ failed_on s p = record {
   waiting = [];
 }
 
+-- A POWER-ON FAILS at once, in the second with which power came.
 abbrev pub AFailedPowerOnIsRecorded : Type 0
 AFailedPowerOnIsRecorded = (o : Origin) (done : List TraceSecond) (p : Progress) (g : Travel) (marks : List Mark)
     (mid later : Device → ℕ) (brought : Card → List ℕ) → HistoryIsRecorded o done p g marks mid brought →
@@ -174,7 +180,7 @@ QuietSecondsAreRecorded = (o : Origin) (done : List TraceSecond) (p : Progress) 
     HistoryIsRecorded o (done ++ driven n p.next speed [])
     (quiet_on n speed (t ∷ span) (went p.log done).before.slots p) g marks now brought
 
--- SECONDS up to a minute's end after a failed call: their actions are refused for lack of power
+-- how far a run has gone behind n seconds without power, of whose actions these were refused
 abbrev pub passed_dark : (n begun : ℕ) → (refused : List Refused) → Progress → Progress
 passed_dark n begun refused p = record p {
   log = record p.log { refused = p.log.refused ++ refused };
@@ -182,6 +188,7 @@ passed_dark n begun refused p = record p {
   begun = begun;
 }
 
+-- SECONDS up to a minute's end after a failed call: their actions are refused for lack of power.
 abbrev pub DarkSecondsAreRecorded : Type 0
 DarkSecondsAreRecorded = (o : Origin) (done : List TraceSecond) (p : Progress) (g : Travel) (marks : List Mark)
     (now : Device → ℕ) (brought : Card → List ℕ) → HistoryIsRecorded o done p g marks now brought →
@@ -190,15 +197,17 @@ DarkSecondsAreRecorded = (o : Origin) (done : List TraceSecond) (p : Progress) (
     HistoryIsRecorded o (done ++ driven (suc n) p.next speed actions) (passed_dark (suc n) begun refused p) g marks now
     brought
 
--- AN `off` LINE while there is no power, and while there is
+-- how far a run has gone behind an `off` line where there was no power
 abbrev pub gone_off : (n : ℕ) → Progress → Progress
 gone_off n p = record p { next = p.next + suc n; begun = 0; supply = Due }
 
+-- AN `off` LINE while there is no power,
 abbrev pub AnOffLineIsRecorded : Type 0
 AnOffLineIsRecorded = (o : Origin) (done : List TraceSecond) (p : Progress) (g : Travel) (marks : List Mark)
     (now : Device → ℕ) (brought : Card → List ℕ) → HistoryIsRecorded o done p g marks now brought →
     IsDark p.supply → (n : ℕ) → HistoryIsRecorded o (done ++ dark (suc n) p.next) (gone_off n p) g marks now brought
 
+-- how far a run has gone behind an `off` line that cuts the power
 abbrev pub cut_off : (n : ℕ) → Progress → Progress
 cut_off n p = record p {
   log = and_break p.log (cut_at (p.next - 1) false p.begun);
@@ -208,6 +217,7 @@ cut_off n p = record p {
   supply = Due;
 }
 
+-- and while there is: the power is cut in the second before it.
 abbrev pub AnOffCutIsRecorded : Type 0
 AnOffCutIsRecorded = (o : Origin) (done : List TraceSecond) (p : Progress) (g : Travel) (marks : List Mark)
     (now : Device → ℕ) (brought : Card → List ℕ) → HistoryIsRecorded o done p g marks now brought →

@@ -1,3 +1,4 @@
+//! What each acceptance of a card brought is accounted for, as a run goes on: laws.
 ghost use Rattle.std.specs.Prelude.{◌≡◌, ◌⊎◌, ℕ, ◌/◌, ◌<◌, ◌≤◌, true, None, List, [], ◌++◌, All, Contains, drop};
 ghost use Rattle.std.specs.List.{AllByRecursion, list_any};
 ghost use Rattle.run_course.specs.trace_model.declared.Card.{Card};

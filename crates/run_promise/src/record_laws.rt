@@ -1,3 +1,4 @@
+//! What a run has recorded, from second to second: laws.
 ghost use Rattle.std.specs.Prelude.{◌≡◌, List};
 ghost use Rattle.run_course.specs.trace_model.Trace.{TraceSecond};
 ghost use Rattle.run_course.specs.log_model.declared.lines.Mark.{Mark};

@@ -1,3 +1,4 @@
+//! What a run carries between two steps on its devices, and what it promises by it: laws.
 ghost use Rattle.std.specs.Prelude.{◌≡◌, ◌/◌, ◌<◌, ◌≤◌, ℕ, List, [], All};
 ghost use Rattle.run_course.specs.activity_codec.declared.entries.Entry.{Entry};
 ghost use Rattle.run_course.specs.trace_model.declared.Card.{Card};

@@ -1,5 +1,5 @@
 -- The record goes on with sessions that hold other entries by hand.
-use Rattle.std.proofs.Common.{◌≡◌, inl, inr, ⊎_elim, ℕ, ◌+◌, true, Option, Some, None, IfSome, List, length, is_some, refl, sym, ◌∙◌, ap, subst}
+use Rattle.std.proofs.Common.{◌≡◌, inl, inr, ⊎_elim, ℕ, true, Option, Some, None, IfSome, List, is_some, refl, sym, ◌∙◌, ap, subst}
 use Rattle.minute_rules.specs.activity_codec.declared.entries.Entry.{Entry}
 use Rattle.run_devices.specs.trace_model.declared.Card.{Card}
 use Rattle.run_devices.specs.trace_model.Trace.{TraceSecond}
@@ -8,8 +8,7 @@ use Rattle.minute_rules.specs.minute_model.declared.Minute.{Minute}
 use Rattle.run_devices.specs.tacho_types.declared.card_number.FullCardNumber.{FullCardNumber}
 use Rattle.run_devices.specs.tacho_types.CardNumber.{card_number_bytes}
 use Rattle.run_devices.specs.log_model.Log.{Phase}
-use Rattle.run_devices.specs.log_model.Course.{Visit, went}
-use Rattle.run_devices.specs.log_model.declared.lines.Refused.{Refused}
+use Rattle.run_devices.specs.log_model.Course.{Visit}
 use Rattle.run_devices.specs.card_session.Sessions.{Session}
 use Rattle.run_devices.specs.hand_model.Written.{Hands}
 use Rattle.run_devices.specs.card_by_hand.First.{IsShutAt}
@@ -25,8 +24,7 @@ use Rattle.run_devices.specs.run_crew.Cards.{session_of}
 use Rattle.run_devices.specs.Told.{SessionIsOnCard, GoesWith, AreFoundCards, DevicesPowered}
 use Rattle.run_devices.specs.Presence.{PresentStand}
 use Rattle.run_record.specs.Recorded.{Values, carried}
-use Rattle.run_record.specs.Within.{AreOneBut, AreAlike, AreBackAt, told_before, course_in, RecordInSecond, SecondGoesOn}
-use Rattle.run_record.specs.Handed.{AreHandedIn}
+use Rattle.run_record.specs.Within.{AreOneBut, AreAlike, told_before, course_in, RecordInSecond}
 
 -- a card has a session still, and had it
 some-still : (a b : Option Accepted) → AreOneBut a b → is_some a ≡ true → is_some b ≡ true

@@ -151,12 +151,3 @@ module _ (log later : RunLog) where
       asked-more later ss s
       ∙ (λ i. asked-alike ss all i ++ asked_in later (went_is i) s)
       ∙ ap (λ (l : List Asked). asked_of log ss ++ l) (second-asked later (went log ss).before s power)
-
-  -- and one without
-  pub asked-dark : (ss : List TraceSecond) (s : TraceSecond) → All (λ (x : TraceSecond). SameAt log later x.number) ss → has_power (went log ss).before s ≡ false → asked_of later (ss ++ s ∷ []) ≡ asked_of log ss
-  asked-dark ss s all dark =
-      let went_is = ap (λ (w : Went). w.before) (went-same log later ss all) in
-      asked-more later ss s
-      ∙ (λ i. asked-alike ss all i ++ asked_in later (went_is i) s)
-      ∙ ap (λ (l : List Asked). asked_of log ss ++ l) (second-asks_none later (went log ss).before s dark)
-      ∙ append-nil (asked_of log ss)

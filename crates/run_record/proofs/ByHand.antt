@@ -1,10 +1,10 @@
 -- An entry by hand that slots and speed let pass: a session holds it, or stops it, which a line tells.
 use Rattle.std.proofs.Common.{◌≡◌, ◌⊎◌, inl, inr, ⊎_elim, ℕ, suc, ◌+◌, ◌<◌, ◌≤◌, Bool, true, false, cond, not, ◌||◌, Option, Some, None, is_some, List, [], ◌∷◌, ◌++◌, All, Contains, length, map, filter, refl, ap, sym, subst, ◌∙◌, arith, append-nil}
-use Rattle.std.specs.Prelude.{◌&&◌, nat_eq, nat_lt, nat_le, take, option_map}
+use Rattle.std.specs.Prelude.{◌&&◌, nat_eq, nat_lt, nat_le, option_map}
 use Rattle.std.specs.List.{AllByRecursion}
 use Rattle.std.proofs.lemmas.Bool.Decides.{nat_tests}
 use Rattle.std.proofs.lemmas.List.{length-take, map-append}
-use Rattle.std.proofs.lemmas.List.Elements.{All-nil, All-cons, All-append, All-filter, All-head, All-map, All-tail, All-weaker, All-contains, All-contains_itself, All-push, filter-append, Contains-append_cases, Contains-push}
+use Rattle.std.proofs.lemmas.List.Elements.{All-nil, All-cons, All-filter, All-head, All-map, All-tail, All-weaker, All-contains, All-contains_itself, All-push, filter-append, Contains-append_cases, Contains-push}
 use Rattle.std.proofs.lemmas.List.Folds.{list_any-append, list_any_none}
 use Rattle.minute_rules.specs.activity_codec.declared.entries.Manual.{Manual as Entry}
 use Rattle.minute_rules.specs.activity_codec.declared.values.Pick.{Pick}
@@ -25,7 +25,6 @@ use Rattle.run_devices.specs.log_model.Causes.{device_of}
 use Rattle.run_devices.specs.log_model.Course.{ToldSecond, Visit, Before, Course, went}
 use Rattle.run_devices.specs.log_model.ByHand.{Asked, asks, sitting_in, minute_on, is_stop, is_stopped, stops as stops_of}
 use Rattle.run_devices.proofs.history_model.Filters.{filter-alike}
-use Rattle.run_devices.specs.run_unit_course.Legs.{Travel}
 use Rattle.run_devices.specs.run_course.Followed.{Progress}
 use Rattle.run_devices.specs.run_course.Kept.{HasDecided, AreMarkedSoFar}
 use Rattle.run_devices.specs.run_course.Moment.{Moment}
@@ -39,13 +38,11 @@ use Rattle.run_devices.specs.card_slots.Kept.{Kept as SlotsKept}
 use Rattle.run_devices.specs.safety_model.Safe.{Devices, breakdowns_of, card_of}
 use Rattle.run_devices.specs.safety_model.Unit.{marks_of}
 use Rattle.run_devices.specs.safety_model.Stops.{CoursePlace, told_at, asked_at}
-use Rattle.run_devices.specs.safety_model.Hands.{Session, begun_at, brought_by, sessions_found, sessions_in, is_behind, hand_of, is_asked_before}
-use Rattle.run_devices.specs.device_rule.Rules.{Standing, In as IsIn}
+use Rattle.run_devices.specs.safety_model.Hands.{Session, begun_at, brought_by, sessions_found, sessions_in, is_behind, is_asked_before}
 use Rattle.run_devices.specs.device_calls.Minute.{IsNotIn}
 use Rattle.run_devices.specs.run_promise.Found.{found_of}
 use Rattle.run_devices.specs.run_promise.Origin.{Origin, rule_of, start_at}
 use Rattle.run_devices.proofs.run_promise.Beside.{found-tells}
-use Rattle.run_devices.specs.run_crew.declared.cabin.Cabin.{Cabin}
 use Rattle.run_devices.specs.run_crew.declared.cards.Accepted.{Accepted}
 use Rattle.run_devices.specs.run_crew.declared.cards.Cards.{Cards}
 use Rattle.run_devices.specs.run_crew.Cards.{session_of}

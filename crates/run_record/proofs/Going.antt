@@ -17,7 +17,7 @@ use Rattle.run_devices.specs.log_model.Log.{RunLog}
 use Rattle.run_devices.specs.log_model.Slots.{Slots, is_accepted}
 use Rattle.run_devices.specs.log_model.Causes.{refusals_at, refusal_told}
 use Rattle.run_devices.specs.log_model.Course.{ToldSecond, Went, powerless, fresh, went, without_power, has_power}
-use Rattle.run_devices.specs.log_model.ByHand.{Asked, asked_of, is_stop}
+use Rattle.run_devices.specs.log_model.ByHand.{asked_of, is_stop}
 use Rattle.run_devices.specs.history_model.Growth.{as_span}
 use Rattle.run_devices.specs.history_model.Minutes.{HistoryMinute}
 use Rattle.run_devices.specs.history_model.Presence.{Start}

@@ -6,23 +6,22 @@ use Rattle.std.proofs.lemmas.Bool.Decides.{nat_tests}
 use Rattle.std.proofs.lemmas.List.{length-map, length-take, map-append}
 use Rattle.std.proofs.lemmas.List.Elements.{All-nil, All-cons, All-append, All-head, All-map, All-tail, All-weaker, All-contains, All-contains_itself, filter-append, Contains-append_left, Contains-append_right, Contains-append_cases, Contains-push, Contains-push_cases, All-filter}
 use Rattle.minute_rules.specs.activity_codec.declared.entries.Entry.{Entry}
-use Rattle.run_devices.specs.trace_model.declared.Action.{Action}
 use Rattle.run_devices.specs.trace_model.declared.Card.{Card}
 use Rattle.run_devices.specs.trace_model.declared.Card.TheVariants.{A, B}
 use Rattle.run_devices.specs.trace_model.Trace.{TraceSecond}
 use Rattle.minute_rules.specs.minute_model.declared.Minute.{Minute}
-use Rattle.minute_rules.specs.minute_model.Span.{count_from, decided_in, ungiven_of}
+use Rattle.minute_rules.specs.minute_model.Span.{count_from, ungiven_of}
 use Rattle.minute_rules.proofs.minute_model.Counted.{decided-minutes}
 use Rattle.run_devices.specs.log_model.declared.lines.Find.{Find}
 use Rattle.run_devices.specs.log_model.declared.lines.Mark.{Mark}
 use Rattle.run_devices.specs.log_model.declared.lines.Verdict.{Verdict}
-use Rattle.run_devices.specs.log_model.Log.{Phase, In, is_accepting}
+use Rattle.run_devices.specs.log_model.Log.{Phase, is_accepting}
 use Rattle.run_devices.specs.log_model.Slots.{same_card}
 use Rattle.run_devices.specs.log_model.Causes.{device_of}
-use Rattle.run_devices.specs.log_model.Course.{ToldSecond, Visit, Course, went}
+use Rattle.run_devices.specs.log_model.Course.{ToldSecond, Visit, Course}
 use Rattle.run_devices.specs.log_model.ByHand.{Asked}
 use Rattle.run_devices.specs.history_model.Minutes.{HistoryMinute, card_history}
-use Rattle.run_devices.specs.history_model.History.{decided_of, minutes_after}
+use Rattle.run_devices.specs.history_model.History.{decided_of}
 use Rattle.run_devices.specs.history_model.Book.{Book, all, IsMark, Ordered}
 use Rattle.run_devices.specs.run_unit_course.Turn.{span_at}
 use Rattle.run_devices.specs.device_rule.Own.{own_number, own_view}
@@ -32,15 +31,13 @@ use Rattle.run_devices.specs.hand_model.Holding.{none_held}
 use Rattle.run_devices.specs.safety_model.Recording.{card_image, unit_seen, brought as brought_at, Recording}
 use Rattle.run_devices.specs.safety_model.Safe.{Devices, card_of, IsVerdict}
 use Rattle.run_devices.specs.safety_model.Unit.{marks_of, Increase}
-use Rattle.run_devices.specs.safety_model.Cards.{acceptances}
 use Rattle.run_devices.specs.safety_model.Hands.{Session, begun_at, brought_by, sessions_of, sessions_found, sessions_in, is_behind}
 use Rattle.run_devices.specs.run_course.Moments.{and_find}
 use Rattle.run_devices.specs.run_course.Seconds.{kept_all}
 use Rattle.run_devices.proofs.run_course.Logs.{all-before}
 use Rattle.run_devices.specs.run_promise.Found.{found_of}
 use Rattle.run_devices.specs.run_promise.Cards.{IsCardHeld, CardMarksHold, brought_by as entries_brought}
-use Rattle.run_devices.specs.run_promise.Going.{acceptances_in, IsTakenAt}
-use Rattle.run_devices.specs.run_promise.Accounts.{so_far}
+use Rattle.run_devices.specs.run_promise.Going.{acceptances_in}
 use Rattle.run_devices.specs.run_promise.Origin.{Origin, rule_of, start_at, first_of}
 use Rattle.run_devices.proofs.run_promise.Accounts.{last-of}
 use Rattle.run_devices.proofs.run_promise.Behind.{said-by, owed-until, rising-above}

@@ -9,7 +9,6 @@ use Rattle.run_devices.specs.log_model.declared.lines.Refused.{Refused}
 use Rattle.run_devices.specs.log_model.Causes.{refusals_at, refusal_told}
 use Rattle.run_devices.specs.log_model.Course.{ToldSecond, without_power}
 use Rattle.run_devices.specs.history_model.Book.{not_begun}
-use Rattle.run_devices.specs.device_rule.Rules.{Out}
 use Rattle.run_devices.specs.run_unit_course.Followed.{UnitPower, Lit, Due, Lost, IsDark}
 use Rattle.run_devices.specs.run_unit_course.Legs.{not_travelled}
 use Rattle.run_devices.specs.run_unit_course.Lines.{cut_at}
@@ -32,8 +31,7 @@ use Rattle.run_record.specs.Recorded.{Values, slots_of, AreThere, RecordBetweenS
 use Rattle.run_record.specs.Within.{RecordedFrom}
 use Rattle.run_devices.specs.run_promise.Opening.{carried_first}
 
--- WITHOUT POWER, up to the minute's end after a failed call: the actions of the first second are refused, and the last
--- one had so many
+-- what a run has by value behind n seconds without power: these refusals more, and the last second had so many actions
 abbrev pub dark_values : (n begun : ℕ) → List Refused → Values → Values
 dark_values n begun refused v = record v {
   log = record v.log { refused = v.log.refused ++ refused };
@@ -41,6 +39,7 @@ dark_values n begun refused v = record v {
   begun = begun;
 }
 
+-- WITHOUT POWER, up to the minute's end after a failed call: the actions of the first second are refused.
 abbrev pub DarkSecondsStayRecorded : Devices → Type 0
 DarkSecondsStayRecorded d = (o : Origin) (done : List TraceSecond) (v : Values) → RecordBetweenSeconds o done Lost v d
     → (n speed : ℕ) (actions : List Action) (refused : List Refused) (begun : ℕ) →
@@ -48,16 +47,17 @@ DarkSecondsStayRecorded d = (o : Origin) (done : List TraceSecond) (v : Values) 
     →
     RecordBetweenSeconds o (done ++ driven (suc n) v.next speed actions) Lost (dark_values (suc n) begun refused v) d
 
--- AN `off` LINE where there is no power,
+-- what a run has by value behind n seconds of an `off` line
 abbrev pub off_values : (n : ℕ) → Values → Values
 off_values n v = record v { next = v.next + n; begun = 0 }
 
+-- AN `off` LINE where there is no power,
 abbrev pub AnOffLineStaysRecorded : Devices → Type 0
 AnOffLineStaysRecorded d = (o : Origin) (done : List TraceSecond) (supply : UnitPower) (v : Values)
     → RecordBetweenSeconds o done supply v d → IsDark supply → (n : ℕ)
     → RecordBetweenSeconds o (done ++ dark (suc n) v.next) Due (off_values (suc n) v) d
 
--- and where there is: the power is cut in the last second.
+-- what a run has by value behind n seconds of an `off` line that cuts the power in the second before it
 abbrev pub off_cut_values : (n : ℕ) → Values → Values
 off_cut_values n v = record v {
   log = and_break v.log (cut_at (v.next - 1) false v.begun);
@@ -66,19 +66,22 @@ off_cut_values n v = record v {
   begun = 0;
 }
 
+-- and where there is: the power is cut in the last second.
 abbrev pub AnOffCutStaysRecorded : Devices → Type 0
 AnOffCutStaysRecorded d = (o : Origin) (done : List TraceSecond) (t : ToldSecond) (span : List ToldSecond) (v : Values)
     → RecordBetweenSeconds o done (Lit (t ∷ span)) v d → (n : ℕ)
     → RecordBetweenSeconds o (done ++ dark (suc n) v.next) Due (off_cut_values (suc n) v) d
 
--- SECONDS WITH POWER in which nothing happens, within a minute: these minutes stand for the longer span.
+-- what a run has by value behind n seconds in which nothing happens, where these minutes stand for the longer span
 abbrev pub quiet_values : (n : ℕ) → Kept → Values → Values
 quiet_values n minutes v = record v { next = v.next + n; begun = begun_after n v.begun; minutes = minutes }
 
+-- the span with n such seconds more
 abbrev pub quiet_span : (o : Origin) (done : List TraceSecond) (n speed : ℕ) → List ToldSecond → Values
     → List ToldSecond
 quiet_span o done n speed span v = span ++ quiet_seconds n v.next speed (slots_of v done)
 
+-- SECONDS WITH POWER in which nothing happens, within a minute.
 abbrev pub QuietSecondsStayRecorded : Devices → Type 0
 QuietSecondsStayRecorded d = (o : Origin) (done : List TraceSecond) (t : ToldSecond) (span : List ToldSecond)
     (v : Values) → (r : RecordBetweenSeconds o done (Lit (t ∷ span)) v d) → (n speed : ℕ) → 0 < v.next % 60
@@ -107,5 +110,6 @@ pub record MayStart (o : Origin) (v : Values) (d : Devices) : Type 0 where
   pub untouched : (c : Card) → IsUntouched (found_of o.found c) (card_of d c)
   pub travels : HasTravelled (odometer_at o.recording.unit) not_begun (not_travelled o.recording.unit) d.unit
 
+-- SO A RUN BEGINS: behind no second it waits for power.
 abbrev pub ARunBegins : Devices → Type 0
 ARunBegins d = (o : Origin) (v : Values) → MayStart o v d → RecordBetweenSeconds o [] Due v d

@@ -34,15 +34,16 @@ actions_to Keeping actions = actions
 abbrev pub asked_to : RunLog → Before → TraceSecond → (front : List Action) → List Asked
 asked_to log before s front = asked_by log s 0 front (course_powered log before s)
 
--- in the seconds before it, where the log was this as it began, and in it
+-- what is asked in the seconds before one, where the log was `began` as it began, and in it behind some of its actions
 abbrev pub asked_so_far : (began : RunLog) → List TraceSecond → (log : RunLog) → TraceSecond → (front : List Action)
     → List Asked
 asked_so_far began done log s front = asked_of began done ++ asked_to log (went began done).before s front
 
--- of what was asked that of a card, and of this that which was done, where sessions refused these
+-- the entries by hand that are asked of a card, of all that are asked
 abbrev pub asked_for : Card → List Asked → List Asked
 asked_for c asked = filter (λ (a : Asked). same_card c a.sitting.card) asked
 
+-- those of them that were done, where sessions refused the others
 abbrev pub done_for : Card → (stops : List Refused) → List Asked → List Asked
 done_for c stops asked = done_by_hand stops (asked_for c asked)
 
@@ -74,14 +75,14 @@ pub record AreHanded (start : Start) (past : List HistoryMinute) (f : Found) (se
 abbrev pub StayOrEnd : (session after : Card → Option Accepted) → Type 0
 StayOrEnd session after = (c : Card) → (after c ≡ session c) ⊎ (after c ≡ None)
 
--- BETWEEN TWO SECONDS
+-- so it is BETWEEN TWO SECONDS, by all that was asked and each session that has begun
 abbrev pub AreHandedBehind : Start → (past : List HistoryMinute) → Found → RunLog → List TraceSecond
     → (stops : List Refused) → List Mark → (hands : Card → Hands) → (firsts : Card → List FirstKeep)
     → (session : Card → Option Accepted) → Type 0
 AreHandedBehind start past f log done stops marks hands firsts session = AreHanded start past f
     (λ c. sessions_in c (went log done).told) (asked_of log done) stops marks hands firsts session
 
--- WITHIN A SECOND that began with this log, at a moment of it, with this course so far
+-- and WITHIN A SECOND that began with this log, at a moment of it, with this course so far
 abbrev pub AreHandedIn : Start → (past : List HistoryMinute) → Found → (began : RunLog) → List TraceSecond
     → TraceSecond → Phase → RunLog → Course → (stops : List Refused) → List Mark → (hands : Card → Hands)
     → (firsts : Card → List FirstKeep) → (session : Card → Option Accepted) → Type 0

@@ -80,7 +80,7 @@ pub record IsAcceptedSo (o : Origin) (done : List TraceSecond) (s : TraceSecond)
   pub brings : Contains (brought card) kept
   pub taken_at : IsTakenAt (first_of o) w.b.run.book (kept_all w.new w.b.run.book) w.new kept
 
--- or it is not, and sits there as before
+-- the card is accepted so, or it is not and sits there as before
 abbrev pub IsSeatedBy : (accepts : Bool)
     → (o : Origin) (done : List TraceSecond) (s : TraceSecond) (at : Phase) (waits : List Visit) (v : Values)
     (d : Devices) (w : RecordInSecond o done s at waits None [] v d) (slot : Slot) (card : Card) (cabin : Cabin)
@@ -103,7 +103,7 @@ pub record IsOpened (o : Origin) (d : Devices) (card : Card) (u : ℕ) (v : Verd
   pub told : HasFoundSo o.found card d.unit (card_of d card) u owed (many_brought v)
   pub fresh : (a : Accepted) → session ≡ Some a → a.held ≡ none_held (u / 60)
 
--- one that is not has the marks and the session that it had
+-- an accepted card has a new session and what was brought; one that is not has the marks and the session that it had
 abbrev pub OpensBy : (accepts : Bool) → Origin → Devices → Card → ℕ → Verdict → (old now : List Mark)
     → (was session : Option Accepted) → Type 0
 OpensBy true o d card u v old now was session = IsOpened o d card u v old now session
@@ -157,6 +157,7 @@ pub record StandJudged (o : Origin) (done : List TraceSecond) (s : TraceSecond) 
   pub others : (x : Card) → (x ≡ card → ⊥) → standing x ≡ w.standing x
   pub stands : is_accepting f.verdict ≡ true → IsSeated o.found standing card s.number
 
+-- SO THE SECOND GOES ON behind a find, where unit and cards are as the book says.
 abbrev pub ACardIsJudged : (d e : Devices) → Type 0
 ACardIsJudged d e = (o : Origin) (done : List TraceSecond) (s : TraceSecond) (at : Phase) (waits fewer : List Visit)
     (v : Values) → (w : RecordInSecond o done s at waits None [] v d) →
@@ -177,6 +178,7 @@ pub record FailedJudging (o : Origin) (done : List TraceSecond) (s : TraceSecond
   pub broke : RoseBy 1 (w.b.broken Recorder) (breakdowns_of e Recorder)
   pub no_keeping : at ≡ Keeping → ⊥
 
+-- So the record is where the unit failed: power is to be cut.
 abbrev pub AJudgingFails : (d e : Devices) → Type 0
 AJudgingFails d e = (o : Origin) (done : List TraceSecond) (s : TraceSecond) (at : Phase) (waits fewer : List Visit)
     (v : Values) → (w : RecordInSecond o done s at waits None [] v d) →
@@ -192,9 +194,12 @@ abbrev pub MayBeWrittenBy : Origin → ℕ → Card → Card → Type 0
 MayBeWrittenBy o u card x = (x ≡ card) × IsOwnValid (card_image o.recording card)
     × ((own_view (card_image o.recording card)).stored ≤ u)
 
+-- what a run has by value behind the tear of a card that was not judged
 abbrev pub torn_values : Break → Cabin → Values → Values
 torn_values b cabin v = record v { log = and_break v.log b; cabin = cabin }
 
+-- A CARD THAT WAITS IS TORN OUT, since a call on it failed before it was judged: no session is new, each device goes
+-- on, and no card was written but for one that had a session, and this one where it may be.
 pub record IsTornNext (o : Origin) (done : List TraceSecond) (s : TraceSecond) (at : Phase) (waits fewer : List Visit)
     (v : Values) (d e : Devices) (w : RecordInSecond o done s at waits None [] v d) (slot : Slot) (card : Card)
     (b : Break) (cabin : Cabin) : Type 0 where
@@ -213,6 +218,7 @@ pub record IsTornNext (o : Origin) (done : List TraceSecond) (s : TraceSecond) (
   pub travels : HasTravelled (odometer_at o.recording.unit) (kept_all w.new w.b.run.book)
       (all_travelled w.ds w.b.travel) e.unit
 
+-- unit and cards are as the book says behind it
 pub record StandTorn (o : Origin) (done : List TraceSecond) (s : TraceSecond) (at : Phase) (waits : List Visit)
     (v : Values) (d e : Devices) (w : RecordInSecond o done s at waits None [] v d) (card : Card) (b : Break)
     (cabin : Cabin) (standing : Card → Standing) : Type 0 where
@@ -220,6 +226,7 @@ pub record StandTorn (o : Origin) (done : List TraceSecond) (s : TraceSecond) (a
       w.brought w.hands w.firsts) cabin.cards e
   pub others : (x : Card) → (x ≡ card → ⊥) → standing x ≡ w.standing x
 
+-- SO THE SECOND GOES ON behind the tear;
 abbrev pub AWaitingCardIsTorn : (d e : Devices) → Type 0
 AWaitingCardIsTorn d e = (o : Origin) (done : List TraceSecond) (s : TraceSecond) (at : Phase)
     (waits fewer : List Visit) (v : Values) → (w : RecordInSecond o done s at waits None [] v d) →
@@ -228,7 +235,7 @@ AWaitingCardIsTorn d e = (o : Origin) (done : List TraceSecond) (s : TraceSecond
     StandTorn o done s at waits v d e w card b cabin standing
     → Behind o done s at waits fewer v (torn_values b cabin v) d e w
 
--- or the unit failed behind that
+-- the unit failed behind the tear, and power is about to be cut
 pub record FailedTearing (o : Origin) (done : List TraceSecond) (s : TraceSecond) (at : Phase) (waits : List Visit)
     (v : Values) (d e : Devices) (w : RecordInSecond o done s at waits None [] v d) (b : Break) (cabin : Cabin) : Type
     0 where
@@ -238,6 +245,7 @@ pub record FailedTearing (o : Origin) (done : List TraceSecond) (s : TraceSecond
   pub broke : RoseBy 1 (w.b.broken Recorder) (breakdowns_of e Recorder)
   pub no_keeping : at ≡ Keeping → ⊥
 
+-- and so the record is where the unit failed.
 abbrev pub ATearingFails : (d e : Devices) → Type 0
 ATearingFails d e = (o : Origin) (done : List TraceSecond) (s : TraceSecond) (at : Phase) (waits fewer : List Visit)
     (v : Values) → (w : RecordInSecond o done s at waits None [] v d) →

@@ -41,6 +41,7 @@ pub record IsLostSo (o : Origin) (done : List TraceSecond) (s : TraceSecond) (at
   pub sessions : AreOld v.cabin.cards after.cards
   pub lasts : StayOrEnd (session_of cabin.cards) (session_of after.cards)
 
+-- unit and cards are as the book says behind it
 pub record StandLost (o : Origin) (done : List TraceSecond) (s : TraceSecond) (at : Phase) (waits : List Visit)
     (v : Values) (d e : Devices) (w : RecordInSecond o done s at waits None [] v d) (card : Card) (f : Find)
     (marks : List Mark) (cabin after : Cabin) (brought : Card → List ℕ) (b : Break) (standing : Card → Standing) : Type
@@ -49,6 +50,7 @@ pub record StandLost (o : Origin) (done : List TraceSecond) (s : TraceSecond) (a
       (kept_all w.new w.b.run.book) standing brought w.hands w.firsts) after.cards e
   pub others : (x : Card) → (x ≡ card → ⊥) → standing x ≡ w.standing x
 
+-- SO THE SECOND GOES ON behind find and tear;
 abbrev pub ACardIsLost : (d e : Devices) → Type 0
 ACardIsLost d e = (o : Origin) (done : List TraceSecond) (s : TraceSecond) (at : Phase) (waits fewer : List Visit)
     (v : Values) → (w : RecordInSecond o done s at waits None [] v d) →
@@ -58,7 +60,7 @@ ACardIsLost d e = (o : Origin) (done : List TraceSecond) (s : TraceSecond) (at :
     → StandLost o done s at waits v d e w card f marks cabin after brought b standing
     → Behind o done s at waits fewer v (lost_values f b marks cabin after v) d e w
 
--- or the unit failed behind that
+-- the unit failed behind find and tear, and power is about to be cut
 pub record FailedLosing (o : Origin) (done : List TraceSecond) (s : TraceSecond) (at : Phase) (waits : List Visit)
     (v : Values) (d e : Devices) (w : RecordInSecond o done s at waits None [] v d) (f : Find) (marks : List Mark)
     (cabin after : Cabin) (brought : Card → List ℕ) (b : Break) : Type 0 where
@@ -69,6 +71,7 @@ pub record FailedLosing (o : Origin) (done : List TraceSecond) (s : TraceSecond)
   pub broke : RoseBy 1 (w.b.broken Recorder) (breakdowns_of e Recorder)
   pub no_keeping : at ≡ Keeping → ⊥
 
+-- and so the record is where the unit failed.
 abbrev pub ALosingFails : (d e : Devices) → Type 0
 ALosingFails d e = (o : Origin) (done : List TraceSecond) (s : TraceSecond) (at : Phase) (waits fewer : List Visit)
     (v : Values) → (w : RecordInSecond o done s at waits None [] v d) →

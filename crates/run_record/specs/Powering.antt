@@ -33,15 +33,16 @@ read_values k v = record v {
   unfound = length (found_from v.unfound k v.log.breaks);
 }
 
--- and a span begins, for which these minutes stand
+-- what a run has by value once its unit was read and a span begins, for which these minutes stand
 abbrev pub begun_values : (k : ℕ) → Kept → Values → Values
 begun_values k minutes v = record (read_values k v) { minutes = minutes }
 
--- it was counted up to this leg as power went, and is counted on from there
+-- the odometer that a unit shows as power is back: that of the start, with the legs before and the one up to which it
+-- was counted
 abbrev pub odometer_found : Origin → (before : List ℕ) → (leg : ℕ) → ℕ
 odometer_found o before leg = odometer_after (odometer_at o.recording.unit) (before ++ leg ∷ [])
 
--- minutes are counted from this odometer
+-- a run by value whose minutes are counted from this odometer
 abbrev pub counted_from : ℕ → Values → Values
 counted_from odometer v = record v { odometer = odometer }
 
@@ -70,7 +71,7 @@ pub record IsBack (o : Origin) (done : List TraceSecond) (supply : UnitPower) (v
   pub goes : GoOn o d e
   pub travels : HasTravelled (odometer_at o.recording.unit) (found k r.book) (resumed leg r.travel) e.unit
 
--- how a second begins with power
+-- how a second begins with which power is back
 abbrev pub begun_again : (o : Origin) (done : List TraceSecond) (supply : UnitPower) (v : Values) (d : Devices)
     → RecordBetweenSeconds o done supply v d → (k leg : ℕ) (e : Devices) → Beginning
 begun_again o done supply v d r k leg e = record {
@@ -91,7 +92,8 @@ PowerIsBack d e = (o : Origin) (done : List TraceSecond) (s : TraceSecond) (supp
     (counted_from (odometer_found o r.travel.before back.leg) (begun_values k minutes v)) e
     (begun_again o done supply v d r k back.leg e) (s.number / 60)
 
--- THE UNIT WAS READ, and its mending failed.
+-- THE UNIT WAS READ, and its mending failed: it showed this last-kept minute and an odometer of this leg, and it broke
+-- down once more.
 pub record IsOnlyRead (o : Origin) (done : List TraceSecond) (supply : UnitPower) (v : Values) (d : Devices)
     (r : RecordBetweenSeconds o done supply v d) (k : ℕ) (e : Devices) : Type 0 where
   pub leg : ℕ
@@ -103,6 +105,7 @@ pub record IsOnlyRead (o : Origin) (done : List TraceSecond) (supply : UnitPower
   pub goes : GoOn o d e
   pub travels : HasTravelled (odometer_at o.recording.unit) (found k r.book) (resumed leg r.travel) e.unit
 
+-- So the record is in the power-on of the second: power is to be cut.
 abbrev pub AMendingFails : (d e : Devices) → Type 0
 AMendingFails d e = (o : Origin) (done : List TraceSecond) (s : TraceSecond) (supply : UnitPower) (v : Values)
     → (r : RecordBetweenSeconds o done supply v d) → MayPower supply v.next → s.number ≡ v.next → s.has_power ≡ true →
@@ -118,6 +121,7 @@ pub record IsNotRead (o : Origin) (done : List TraceSecond) (supply : UnitPower)
   pub goes : GoOn o d e
   pub travels : HasTravelled (odometer_at o.recording.unit) r.book r.travel e.unit
 
+-- So the second is recorded as a cut's, and power is lost behind it.
 abbrev pub AReadingFails : (d e : Devices) → Type 0
 AReadingFails d e = (o : Origin) (done : List TraceSecond) (s : TraceSecond) (supply : UnitPower) (v : Values)
     → (r : RecordBetweenSeconds o done supply v d) → MayPower supply v.next → s.number ≡ v.next → s.has_power ≡ true →

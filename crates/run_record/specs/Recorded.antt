@@ -89,7 +89,7 @@ abbrev pub AreBack : (low : ℕ) → Cabin → Type 0
 AreBack low cabin = (card : Card) → is_some (session_of cabin.cards card) ≡ true
     → IfSome (left_of cabin.slots.left card) (λ left. left ≤ low)
 
--- a card sits in a slot, accepted
+-- a card sits in one of the slots, accepted
 abbrev pub SitsAccepted : SlotsKept → Card → Type 0
 SitsAccepted kept card = (slot : Slot) × (n : ℕ)
     × (seat_in kept.seats slot ≡ Some (record { card = card; newest = Some n }))
@@ -154,7 +154,7 @@ pub record RecordUnpowered (o : Origin) (done : List TraceSecond) (v : Values) (
   pub driver : is_accepted (slots_of v done).driver ≡ false
   pub codriver : is_accepted (slots_of v done).codriver ≡ false
 
--- a span that goes on has a second; without power there is none
+-- the record by the power: while there is power that of the span so far, else that without power
 abbrev pub IsHeldBy : Origin → List TraceSecond → UnitPower → Values → RunLedger → Devices → Type 0
 IsHeldBy o done (Lit span) v w d = RecordPowered o done span v w d
 IsHeldBy o done Due v w d = RecordUnpowered o done v w d
@@ -165,7 +165,7 @@ IsHeldBy o done Lost v w d = RecordUnpowered o done v w d
 abbrev pub IsCountedFrom : Origin → (before : List ℕ) → (odometer : ℕ) → Type 0
 IsCountedFrom o before odometer = odometer ≡ odometer_after (odometer_at o.recording.unit) before
 
--- while there is power
+-- so it is while there is power
 abbrev pub IsCountedIn : UnitPower → Origin → (before : List ℕ) → (odometer : ℕ) → Type 0
 IsCountedIn (Lit span) o before odometer = IsCountedFrom o before odometer
 IsCountedIn Due o before odometer = Unit {0}

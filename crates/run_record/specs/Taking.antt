@@ -39,7 +39,7 @@ use Rattle.run_record.specs.Judging.{IsNext, torn_values}
 
 -- ---- a card is put into a slot
 
--- what a run has by value behind it, where these minutes stand for the span
+-- what a run has by value once a card was put into a slot, where these minutes stand for the span
 abbrev pub put_values : Slot → Card → Kept → Values → Values
 put_values slot card minutes v = record v { cabin = with_card_in slot card v.cabin; minutes = minutes }
 
@@ -59,6 +59,7 @@ pub record IsPutIntoSlot (o : Origin) (done : List TraceSecond) (s : TraceSecond
   pub settles : (course_in goes.within.b done s (In (suc (length front))) v.log).settled ≡ true
   pub to_here : goes.within.from + length decided ≡ s.number / 60
 
+-- SO IT IS of an insertion that the slots let pass, where these minutes stand for the span with its settling.
 abbrev pub ACardIsPutIn : Devices → Type 0
 ACardIsPutIn d = (o : Origin) (done : List TraceSecond) (s : TraceSecond) (v : Values) (front : List Action)
     (slot : Slot) (card : Card) (rest : List Action) → s.actions ≡ front ++ Insert slot card ∷ rest →
@@ -113,6 +114,8 @@ pub record IsLeft (o : Origin) (done : List TraceSecond) (s : TraceSecond) (v : 
   pub settles : (course_in goes.within.b done s (In (suc (length front))) v.log).settled ≡ true
   pub to_here : goes.within.from + length decided ≡ s.number / 60
 
+-- SO IT IS of a withdrawal that the slots and the speed let pass, where these minutes stand for the span with its
+-- settling.
 abbrev pub ACardLeaves : Devices → Type 0
 ACardLeaves d = (o : Origin) (done : List TraceSecond) (s : TraceSecond) (v : Values) (front : List Action)
     (slot : Slot) (card : Card) (rest : List Action) → s.actions ≡ front ++ Withdraw slot ∷ rest →
@@ -133,7 +136,7 @@ pub record IsCalledLeaving (o : Origin) (done : List TraceSecond) (s : TraceSeco
   pub travels : HasTravelled (odometer_at o.recording.unit) (kept_all w.new w.b.run.book)
       (all_travelled w.ds w.b.travel) e.unit
 
--- what a run has by value once its session is closed
+-- what a run has by value once the session of a card is closed
 abbrev pub closed_values : Card → Values → Values
 closed_values card v = record v { cabin = with_session_of card None v.cabin }
 

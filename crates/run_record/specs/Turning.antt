@@ -15,20 +15,21 @@ use Rattle.run_devices.specs.run_promise.Origin.{Origin}
 use Rattle.run_record.specs.Recorded.{Values, RecordBetweenSeconds}
 use Rattle.run_record.specs.Within.{RecordInSecond}
 
--- the last of a second and n more behind it, and the seconds before that one
+-- the last of a second and n more behind it, which have its speed and no actions
 abbrev pub last_of : ℕ → TraceSecond → TraceSecond
 last_of zero s = s
 last_of (suc n) s = record { number = s.number + suc n; has_power = true; speed = s.speed; actions = [] }
 
+-- the seconds before that one
 abbrev pub before_last : ℕ → TraceSecond → List TraceSecond → List TraceSecond
 before_last zero s done = done
 before_last (suc n) s done = done ++ s ∷ driven n (s.number + 1) s.speed []
 
--- what a run has by value in the keeping of the last one
+-- what a run has by value in the keeping of that one
 abbrev pub turned_values : (n begun : ℕ) → Kept → Values → Values
 turned_values n begun minutes v = record v { minutes = minutes; next = v.next + n; begun = begun }
 
--- behind the first of several
+-- behind the first of several such seconds the run is recorded: with power, and one second of the span more
 pub record BehindFirst (o : Origin) (done : List TraceSecond) (s : TraceSecond) (v : Values) (d : Devices) : Type
     0 where
   pub told : ToldSecond
@@ -54,6 +55,7 @@ pub record IsTurned (o : Origin) (done : List TraceSecond) (s : TraceSecond) (n 
   pub goes_on : 0 < n → (fed.b.run.log ≡ v.log) × (begins_with fed.b.span ≡ false)
   pub behind : 0 < n → BehindFirst o done s v d
 
+-- SO IT IS of a second all of whose actions are done and n more behind it, within a minute.
 abbrev pub ATurnIsFed : Devices → Type 0
 ATurnIsFed d = (o : Origin) (done : List TraceSecond) (s : TraceSecond) (v : Values)
     → (w : RecordInSecond o done s (In (length s.actions)) [] None [] v d) → (n : ℕ) → s.number % 60 + suc n ≤ 60 →
@@ -62,7 +64,7 @@ ATurnIsFed d = (o : Origin) (done : List TraceSecond) (s : TraceSecond) (v : Val
     (rest : List Minute) → ((span : Span) → CountsSpan v.minutes span
     → decided_in (fed_many span s.speed (suc n)) ≡ decided_in span ++ rest) → IsTurned o done s n rest minutes v d w
 
--- the last one ends them
+-- The last one ends them: the seconds are those of the trace.
 abbrev pub TheTurnEnds : Type 0
 TheTurnEnds = (done : List TraceSecond) (s : TraceSecond) (n : ℕ)
     → before_last n s done ++ last_of n s ∷ [] ≡ done ++ s ∷ driven n (s.number + 1) s.speed []

@@ -24,6 +24,7 @@ pub record IsWaking (o : Origin) (done : List TraceSecond) (s : TraceSecond) (b 
   pub is_now : within.from ≡ s.number / 60
   pub none : (slot : Slot) → Contains untold slot → found_in v.log s.number (In 0) slot ≡ []
 
+-- the slots in which cards are judged as power is back, in their order
 abbrev pub both_slots : List Slot
 both_slots = Driver ∷ CoDriver ∷ []
 

@@ -88,10 +88,11 @@ pub record Beginning : Type 0 where
   pub broken : Device → ℕ
   pub brought : Card → List ℕ
 
--- the seconds before it, and its course at a moment
+-- how the seconds before it went
 abbrev pub told_before : Beginning → List TraceSecond → List ToldSecond
 told_before b done = (went b.run.log done).told
 
+-- its course at a moment, by this log
 abbrev pub course_in : Beginning → List TraceSecond → TraceSecond → Phase → RunLog → Course
 course_in b done s at log = course_at log (went b.run.log done).before s at
 
@@ -116,6 +117,7 @@ BringsBy o b done often marks c u (Takes replayed) = IsAllOwed o.recording marks
 BringsBy o b done often marks c u (NotValid fid place) = Unit {0}
 BringsBy o b done often marks c u (TimeOverlap stored now) = Unit {0}
 
+-- so a verdict may be found of a card: by the images, and by what it brings
 abbrev pub VerdictBy : Origin → Beginning → List TraceSecond → (often : ℕ) → List Mark → (unit card : List ℕ → Type 0)
     → Card → ℕ → Verdict → Type 0
 VerdictBy o b done often marks unit card c u v = SeenBy o often unit card c u v × BringsBy o b done often marks c u v
@@ -159,8 +161,8 @@ IsSparedSo o b done c waits u kept d card = IsUntouched (found_of o.found card) 
     ⊎ MayBeWrittenSo o b done c waits u kept card
 
 -- A CARD IS LEAVING a slot with this moment, and its session is not closed yet: it sits in none, and was not torn out.
--- All minutes before this one are to be kept by then; in those that are still to be kept, from one on, it was present
--- in that slot, if at all.
+-- All minutes before this one are to be kept by then; in those that are still to be kept, from the first of them on, it
+-- was present in that slot, if at all.
 pub record IsLeaving (log : RunLog) (before : Before) (s : TraceSecond) (at : Phase) (low high : ℕ) (cabin : Cabin)
     (slot : Slot) (card : Card) : Type 0 where
   pub leaves : (moved_at log before s at).leaving slot ≡ record { phase = at; slot = slot; card = card } ∷ []
@@ -382,11 +384,12 @@ ASecondIsFed d = (o : Origin) (done : List TraceSecond) (s : TraceSecond) (v : V
     → decided_in (fed w.sp s.speed) ≡ decided_in w.sp ++ rest →
     SecondGoesOn o done s Keeping [] (Some s.speed) rest (record v { minutes = minutes }) d w.b w.from
 
--- AN ACTION IS REFUSED, and that is told;
+-- what a run has by value behind a refusal
 abbrev pub refused_values : (second begun : ℕ) → SlotFault → Values → Values
 refused_values second begun fault v = record
     v { log = and_refused v.log (record { second = second; fault = fault; begun = begun }) }
 
+-- AN ACTION IS REFUSED, and that is told;
 abbrev pub ARefusalIsRecorded : Devices → Type 0
 ARefusalIsRecorded d = (o : Origin) (done : List TraceSecond) (s : TraceSecond) (v : Values) (front : List Action)
     (a : Action) (rest : List Action) → s.actions ≡ front ++ a ∷ rest →
@@ -395,10 +398,11 @@ ARefusalIsRecorded d = (o : Origin) (done : List TraceSecond) (s : TraceSecond) 
     SecondGoesOn o done s (In (suc (length front))) [] None [] (refused_values s.number (suc (length front)) fault v) d
     w.b w.from
 
--- or an activity IS SELECTED.
+-- what a run has by value behind a selection
 abbrev pub heard_values : Kept → Values → Values
 heard_values minutes v = record v { minutes = minutes }
 
+-- or an activity IS SELECTED.
 abbrev pub ASelectionIsRecorded : Devices → Type 0
 ASelectionIsRecorded d = (o : Origin) (done : List TraceSecond) (s : TraceSecond) (v : Values) (front : List Action)
     (slot : Slot) (pick : Pick) (rest : List Action) → s.actions ≡ front ++ Select slot pick ∷ rest →
@@ -414,13 +418,14 @@ AreOneBut None (Some b) = ⊥
 AreOneBut (Some a) None = ⊥
 AreOneBut (Some a) (Some b) = (b.session ≡ a.session) × (b.held.begun ≡ a.held.begun)
 
--- so it is of a card, of which the same is known
+-- the same is known of a card, and its sessions are one but for the entries by hand that they hold
 pub record IsAlike (old new : Cards) (card : Card) : Type 0 where
   pub number : (known_of new card).number ≡ (known_of old card).number
   pub sizes : (known_of new card).sizes ≡ (known_of old card).sizes
   pub row : (known_of new card).row ≡ (known_of old card).row
   pub session : AreOneBut (session_of old card) (session_of new card)
 
+-- so it is of both cards
 abbrev pub AreAlike : (old new : Cards) → Type 0
 AreAlike old new = (card : Card) → IsAlike old new card
 
@@ -428,17 +433,17 @@ AreAlike old new = (card : Card) → IsAlike old new card
 abbrev pub with_entry : Entry → Accepted → Accepted
 with_entry e a = record a { held = record a.held { entries = a.held.entries ++ e ∷ [] } }
 
--- why a session does not take one, as the log tells it
+-- how the log tells why a session does not take an entry by hand
 abbrev pub stop_told : EnterFault → SlotFault
 stop_told (enter.Begun first) = Begun first
 stop_told (enter.NotFree newest inserted) = NotFree newest inserted
 stop_told (enter.Full held) = Full held
 
--- why it stops one of a minute, if it does
+-- why a session stops an entry by hand of a minute, if it does
 abbrev pub stop_of : Accepted → (minute : ℕ) → Option SlotFault
 stop_of a minute = option_map stop_told (stopped_by a.held a.session.minute minute)
 
--- ONE IS ANSWERED at a place of the course by the session of a card: it is stopped, which a line tells, or that holds
+-- AN ENTRY BY HAND IS ANSWERED at a place of the course: it is stopped, which a line tells, or the card's session holds
 -- it
 abbrev pub AnswersSo : Option SlotFault → (second begun : ℕ) → Entry → Card → (old new : Cards)
     → (stops after : List Refused) → Type 0
@@ -449,6 +454,7 @@ AnswersSo None second begun e card old new stops after = (after ≡ stops)
     × ((c : Card) → same_card card c ≡ false → session_of new c ≡ session_of old c)
     × ((a : Accepted) → session_of old card ≡ Some a → session_of new card ≡ Some (with_entry e a))
 
+-- it is answered by the session of a card, if that has one
 abbrev pub IsAnswered : (second begun : ℕ) → Entry → Card → (old new : Cards) → (stops after : List Refused) → Type 0
 IsAnswered second begun e card old new stops after = (a : Accepted) → session_of old card ≡ Some a
     → AnswersSo (stop_of a e.minute) second begun e card old new stops after
@@ -493,6 +499,7 @@ pub record IsCalled (o : Origin) (done : List TraceSecond) (s : TraceSecond) (at
   pub travels : HasTravelled (odometer_at o.recording.unit) (kept_all w.new w.b.run.book)
       (all_travelled w.ds w.b.travel) e.unit
 
+-- SO THE SECOND GOES ON behind such a call.
 abbrev pub ACallIsRecorded : (d e : Devices) → Type 0
 ACallIsRecorded d e = (o : Origin) (done : List TraceSecond) (s : TraceSecond) (at : Phase) (waits : List Visit)
     (speed : Option ℕ) (rest : List Minute) (v : Values) → (w : RecordInSecond o done s at waits speed rest v d) →
@@ -522,6 +529,7 @@ pub record HasFailed (o : Origin) (done : List TraceSecond) (s : TraceSecond) (a
       (broken_at (lost_minute o w.b done w.new lost) (kept_all w.new w.b.run.book))
       (stranded_at lost (all_travelled w.ds w.b.travel)) e.unit
 
+-- SO THE RECORD IS where the unit failed: power is to be cut.
 abbrev pub AFailureIsRecorded : (d e : Devices) → Type 0
 AFailureIsRecorded d e = (o : Origin) (done : List TraceSecond) (s : TraceSecond) (at : Phase) (waits : List Visit)
     (speed : Option ℕ) (rest : List Minute) (v : Values) → (w : RecordInSecond o done s at waits speed rest v d) →

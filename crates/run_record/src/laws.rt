@@ -1,3 +1,4 @@
+//! What a run carries within a second, from moment to moment: laws.
 ghost use Rattle.run_devices.specs.run_promise.Between.{devices};
 ghost use Rattle.run_record.specs.Within.{ACutIsRecorded, TheSecondIsOver, ASecondBegins, AMinuteIsOver, ASecondIsFed};
 ghost use Rattle.run_record.specs.Within.{ARefusalIsRecorded, ASelectionIsRecorded, AnEntryByHandIsRecorded};

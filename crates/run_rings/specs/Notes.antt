@@ -35,7 +35,7 @@ action_notes log s n a c =
     (record { before = n; action = a; slots = c.slots; after = (acted log s n a c).slots })
     (acted log s n a c).found
 
--- what these note, one after another
+-- what these actions note, one after another, with n before them
 abbrev pub notes_from : RunLog → TraceSecond → (n : ℕ) → List Action → Course → List Note
 notes_from log s n [] c = []
 notes_from log s n (a ∷ actions) c =
@@ -66,11 +66,12 @@ AnActionNotes = (log : RunLog) (before : Before) (s : TraceSecond) (front : List
     notes_to log before s (front ++ a ∷ []) ≡ notes_to log before s front
     ++ notes_from log s (length front) (a ∷ []) (all_acted log s 0 front (course_powered log before s))
 
--- THE SECOND ENDS: these are its notes, up to its cut if it has one.
+-- THE SECOND ENDS behind all of its actions: these are its notes.
 abbrev pub ASecondHasNoted : Type 0
 ASecondHasNoted = (log : RunLog) (before : Before) (s : TraceSecond) → has_power before s ≡ true
     → noted_in log (done_by log before s) ≡ notes_to log before s s.actions
 
+-- Behind a cut no action notes anything more.
 abbrev pub ACutNotesNoMore : Type 0
 ACutNotesNoMore = (log : RunLog) (before : Before) (s : TraceSecond) (front rest : List Action)
     → cut_in log s.number ≡ Some (length front) → notes_to log before s (front ++ rest) ≡ notes_to log before s front
@@ -91,23 +92,26 @@ abbrev pub sits_accepted : (second : ℕ) → Slot → Option Sitting → List V
 sits_accepted u slot None verdicts = []
 sits_accepted u slot (Some x) verdicts = accepts_by u slot x.card verdicts
 
--- ONE ACTION MORE notes these
+-- one action more, behind these, makes these notes
 abbrev pub NotesMore : RunLog → Before → TraceSecond → (front : List Action) → Action → List Note → Type 0
 NotesMore log before s front a more = notes_to log before s (front ++ a ∷ []) ≡ notes_to log before s front ++ more
 
--- A SELECTION notes nothing, nor does a card that is pulled out, nor an entry by hand, nor an action that is refused;
+-- A SELECTION notes nothing,
 abbrev pub SelectionsNoteNothing : Type 0
 SelectionsNoteNothing = (log : RunLog) (before : Before) (s : TraceSecond) (front : List Action) (slot : Slot)
     (pick : Pick) → NotesMore log before s front (Select slot pick) []
 
+-- nor does a card that is pulled out,
 abbrev pub PullsNoteNothing : Type 0
 PullsNoteNothing = (log : RunLog) (before : Before) (s : TraceSecond) (front : List Action) (slot : Slot)
     → NotesMore log before s front (Tear slot) []
 
+-- nor an entry by hand,
 abbrev pub EntriesByHandNoteNothing : Type 0
 EntriesByHandNoteNothing = (log : RunLog) (before : Before) (s : TraceSecond) (front : List Action) (slot : Slot)
     (pick : Pick) (minute : ℕ) → NotesMore log before s front (Manual slot pick minute) []
 
+-- nor an action that is refused;
 abbrev pub RefusalsNoteNothing : Type 0
 RefusalsNoteNothing = (log : RunLog) (before : Before) (s : TraceSecond) (front : List Action) (a : Action)
     (fault : SlotFault) → refusal (course_behind log before s front).slots s.speed a ≡ Some fault

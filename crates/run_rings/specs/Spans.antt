@@ -18,39 +18,42 @@ abbrev pub with_second : List SpanFrom → (base : ℕ) → ToldSecond → List 
 with_second spans base t = if t.lit
     then (if t.starts then spans ++ record { base = base; span = t ∷ [] } ∷ [] else go_on_from spans base t) else spans
 
--- THEY ARE THE POWER SPANS of the seconds.
+-- WITH A SECOND MORE these are the power spans of the seconds still.
 abbrev pub TheyAreTheSpans : Type 0
 TheyAreTheSpans = (spans : List SpanFrom) (base : ℕ) (t : ToldSecond)
     → map (λ (s : SpanFrom). s.span) (with_second spans base t) ≡ spans_with (map (λ (s : SpanFrom). s.span) spans) t
 
--- ODOMETERS STAY, those before a later second;
+-- ODOMETERS STAY of the seconds before it;
 abbrev pub EarlierOdometersStay : Type 0
 EarlierOdometersStay = (spans : List SpanFrom) (base : ℕ) (t : ToldSecond) (u : ℕ) → u < t.second.number
     → odometer_at u (with_second spans base t) ≡ odometer_at u spans
 
--- and all of them, whatever is told of a second more: its number and its speed count, and whether power began with it.
+-- two seconds are alike for odometers: in number, speed, power, and whether power began with them
 pub record AreAlike (t x : ToldSecond) : Type 0 where
   pub number : x.second.number ≡ t.second.number
   pub speed : x.second.speed ≡ t.second.speed
   pub lit : x.lit ≡ t.lit
   pub starts : x.starts ≡ t.starts
 
+-- and of all seconds, whichever of two that are alike is the one more.
 abbrev pub AlikeSecondsCountAlike : Type 0
 AlikeSecondsCountAlike = (spans : List SpanFrom) (base : ℕ) (t x : ToldSecond) → AreAlike t x → (u : ℕ)
     → odometer_at u (with_second spans base x) ≡ odometer_at u (with_second spans base t)
 
--- these seconds, and all of these spans, come before a second
+-- these seconds come before a number
 abbrev pub AreBefore : ℕ → List Second → Type 0
 AreBefore u seconds = AllByRecursion (λ (s : Second). s.number < u) seconds
 
+-- all seconds of these spans do
 abbrev pub AreAllBefore : ℕ → List SpanFrom → Type 0
 AreAllBefore u spans = AllByRecursion (λ (s : SpanFrom). AreBefore u (seconds_in s.span)) spans
 
--- THE ODOMETER OF NOW, in a second with power: that of the span that goes on, and what was travelled in it; or that
--- with which a span begins.
+-- an odometer and what was travelled in these seconds since, in whole kilometres; it stays at the highest value
 abbrev pub odometer_on : (base : ℕ) → List Second → ℕ
 odometer_on base seconds = min HIGHEST_ODOMETER (base + sum_by (λ (s : Second). s.speed) seconds / 3600)
 
+-- THE ODOMETER OF NOW, in a second with power: that with which a span begins, or that of the span that goes on and what
+-- was travelled in it.
 abbrev pub TheOdometerOfNow : Type 0
 TheOdometerOfNow = (spans : List SpanFrom) (base : ℕ) (t : ToldSecond) → t.lit ≡ true
     → AreAllBefore t.second.number spans →

@@ -17,6 +17,7 @@ speed_of t = record { number = t.second.number; speed = t.second.speed }
 abbrev pub speeds_of : List ToldSecond → List (List SpeedSecond)
 speeds_of told = map (λ span. map speed_of span) (spans_of told)
 
+-- those of the seconds of a trace, by the log
 abbrev pub speed_spans : RunLog → List TraceSecond → List (List SpeedSecond)
 speed_spans log done = speeds_of (went log done).told
 

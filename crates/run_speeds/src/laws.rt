@@ -1,3 +1,4 @@
+//! Laws on the definitions of specs/: they run nothing, and their contracts say what is proved of them.
 ghost use Rattle.std.specs.Prelude.{◌≡◌, ℕ, ◌+◌, ◌≤◌, Bool, true, false, List, [], ◌∷◌, ◌++◌, length, drop, is_some};
 ghost use Rattle.std.specs.Prelude.{IfSome};
 ghost use Rattle.tach_media.specs.card_layout.Images.{SameOutside};

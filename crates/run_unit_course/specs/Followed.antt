@@ -44,7 +44,7 @@ going_on (Lit span) = span
 going_on Due = []
 going_on Lost = []
 
--- it as a list of spans
+-- the span that goes on as a list of spans: one, or none where it has no second
 abbrev pub as_spans : List ToldSecond → List (List ToldSecond)
 as_spans [] = []
 as_spans (t ∷ span) = (t ∷ span) ∷ []
@@ -87,6 +87,7 @@ pub record HadPower (breaks : List Break) (done : List TraceSecond) (begun : ℕ
       (record { number = had.number; has_power = true; speed = had.speed; actions = had.actions }) ≡ true
   pub slots : (went (log_of breaks) had.before).before.slots ≡ empty_slots
 
+-- where a span has begun, its last second had so many actions and power, and no cut is told in it
 abbrev pub IsLastOf : UnitPower → List Break → List TraceSecond → ℕ → Type 0
 IsLastOf (Lit []) breaks done begun = Unit {0}
 IsLastOf (Lit (t ∷ span)) breaks done begun = HadPower breaks done begun
@@ -161,12 +162,14 @@ pub record IsOpen (rule : Rule) (start : Start) (breaks found : List Break) (tol
   pub begins : (rest : List HistoryMinute) × (b.sure ≡ closed_history rule start (log_of breaks) told front ++ rest)
   pub lost : AreLost (closed_lost rule start (log_of breaks) told front) b
 
--- without power no minute waits, and the last cut is found or not
+-- without power no minute waits, and what was kept after the last cut is known or not
 abbrev pub IsEnded : Rule → Start → List Break → List Break → List ToldSecond → List (List ToldSecond) → Book
     → List HistoryMinute → Type 0
 IsEnded rule start breaks found told ended b waiting =
     (waiting ≡ []) × (IsShut rule start breaks found told ended [] b [] ⊎ IsOpen rule start breaks found told ended b)
 
+-- the book goes with the spans so far: with power it is known what was kept after each cut, without it that of the last
+-- cut may not be
 abbrev pub IsTied : Rule → Start → List Break → List Break → List ToldSecond → List (List ToldSecond) → UnitPower → Book
     → List HistoryMinute → Type 0
 IsTied rule start breaks found told ended (Lit span) b waiting = IsShut rule start breaks found told ended span b

@@ -18,7 +18,7 @@ abbrev pub with_kept : ℕ → Break → Break
 with_kept k (Cut second kept failed begun) = Cut second k failed begun
 with_kept k (Tear second slot failed begun late) = Tear second slot failed begun late
 
--- from an index on they tell that this minute was found
+-- of these breaks those from an index on tell that this minute was found
 abbrev pub found_from : ℕ → ℕ → List Break → List Break
 found_from unfound k breaks = take unfound breaks ++ map (with_kept k) (drop unfound breaks)
 

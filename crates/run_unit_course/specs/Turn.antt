@@ -77,7 +77,7 @@ dark_seconds (suc n) number speed given actions = dark_second number speed given
 abbrev pub cut_at_end : ToldSecond → ToldSecond
 cut_at_end t = record t { cut = true; course = cut_told true t.course }
 
--- the last of these seconds does
+-- the last of these seconds turns out to be a cut's
 abbrev pub cut_last : List ToldSecond → List ToldSecond
 cut_last [] = []
 cut_last (t ∷ []) = cut_at_end t ∷ []

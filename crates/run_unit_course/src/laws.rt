@@ -1,3 +1,4 @@
+//! How the run of a unit without cards goes on, turn by turn: laws.
 ghost use Rattle.std.specs.Prelude.{◌≡◌, ◌+◌, ◌-◌, ◌/◌, ◌%◌, ◌<◌, ◌≤◌, suc, true, false, ℕ, Option, ◌++◌, ◌∷◌, List};
 ghost use Rattle.std.specs.Prelude.{[], All, length, option_to_list, option_map};
 ghost use Rattle.std.specs.List.{AllByRecursion};

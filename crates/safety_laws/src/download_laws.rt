@@ -1,3 +1,4 @@
+//! What a download and a view of it tell of a unit: laws.
 ghost use Rattle.std.specs.Prelude.{◌≡◌, ℕ, None, List, length};
 ghost use Rattle.log_model.specs.declared.lines.Mark.{Mark};
 ghost use Rattle.history_model.specs.Minutes.{HistoryMinute};

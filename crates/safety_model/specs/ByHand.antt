@@ -22,7 +22,7 @@ use Rattle.safety_model.specs.Unit.{marks_of}
 use Rattle.safety_model.specs.Hands.{Session, IsSessionOf, IsFirstOf, is_within, of_session}
 use Rattle.safety_model.specs.Hands.{sessions, asked, done, hands_done, IsFirstBefore, held_before}
 
--- one line tells it, or none
+-- a line of the log tells this fault of an entry by hand that was asked; where there is no fault, no line tells one
 abbrev pub IsTold : List Refused → Asked → Option SlotFault → Type 0
 IsTold lines a None = (l : Refused) → Contains lines l → l.second ≡ a.second → l.begun ≡ a.begun → ⊥
 IsTold lines a (Some fault) = Contains lines (record { second = a.second; fault = fault; begun = a.begun })
@@ -50,6 +50,7 @@ pub record IsStoppedBy (May : (second newest : ℕ) → Type 0) (all : List Sess
       a.minute
 
 module _ (r : Recording) (c : Card) where
+  -- the sizes of the card, by its image at the start
   abbrev pub app : Application
   app = own_sizes (card_image r c)
 
@@ -58,7 +59,7 @@ module _ (r : Recording) (c : Card) where
   abbrev pub TellsHands : (x : List ℕ) → Type 0
   TellsHands x = IsPartOf (by_hand_in app x) (hands_at (card_image r c) ++ hands_done r c)
 
-  -- the first mark of a session, by all marks of the run
+  -- the first mark of a session of the card, by all marks of the run
   abbrev pub IsFirstMark : (marks : List Mark) → Session → Option Session → Mark → Type 0
   IsFirstMark marks s next m = IsFirstOf (sessions r c) (marks_of (device_of c) marks) s next m
 

@@ -27,48 +27,53 @@ pub record Session : Type 0 where
   pub begun : ℕ
   pub brought : ℕ
 
+-- how many entries an acceptance brings, 0 where the card is not accepted
 abbrev pub brought_by : Verdict → ℕ
 brought_by (Accepted replayed) = replayed
 brought_by (NotValid fid place) = 0
 brought_by (TimeOverlap stored now) = 0
 
+-- how many actions had begun at a moment at which cards are judged
 abbrev pub begun_at : Phase → ℕ
 begun_at (In n) = n
 begun_at Keeping = 0
 
--- those that a second of this number begins for a card, by what it found; and those of some seconds
+-- the sessions of a card that the finds of a second begin
 abbrev pub sessions_found : Card → (second : ℕ) → List (Visit × Verdict) → List Session
 sessions_found c u found = map
     (λ f. record { second = u; begun = begun_at f.0.phase; brought = brought_by f.1 })
     (filter (λ f. same_card c f.0.card && is_accepting f.1) found)
 
+-- the sessions of a card that begin in a second
 abbrev pub sessions_of : Card → ToldSecond → List Session
 sessions_of c t = sessions_found c t.second.number t.course.found
 
+-- the sessions of a card that begin in these seconds, in order
 abbrev pub sessions_in : Card → List ToldSecond → List Session
 sessions_in c told = flat_map (sessions_of c) told
 
--- an entry by hand is asked behind an acceptance, and before another
+-- an entry by hand is asked behind the acceptance that begins a session
 abbrev pub is_behind : Session → Asked → Bool
 is_behind s a = nat_lt s.second a.second || (nat_eq s.second a.second && nat_lt s.begun a.begun)
 
+-- it is asked before the acceptance that begins the next one, if there is one
 abbrev pub is_before : Option Session → Asked → Bool
 is_before None a = true
 is_before (Some s) a = not (is_behind s a)
 
--- so it is asked in a session, before the next one
+-- it is asked in a session: behind its acceptance, and before the next
 abbrev pub is_within : Session → Option Session → Asked → Bool
 is_within s next a = is_behind s a && is_before next a
 
--- one is asked before another
+-- one entry by hand is asked before another
 abbrev pub is_asked_before : Asked → Asked → Bool
 is_asked_before b a = nat_lt b.second a.second || (nat_eq b.second a.second && nat_lt b.begun a.begun)
 
--- of what was done that in a session
+-- the entries by hand that were done in a session
 abbrev pub of_session : (done : List Asked) → Session → Option Session → List Manual
 of_session done s next = map hand_of (filter (is_within s next) done)
 
--- a minute is from that of an acceptance on, and before that of another
+-- a minute is no earlier than that of one acceptance, and earlier than that of the next
 abbrev pub is_between : Session → Session → (minute : ℕ) → Bool
 is_between s next minute = nat_le (s.second / 60) minute && nat_lt minute (next.second / 60)
 
@@ -97,17 +102,18 @@ module _ (all : List Session) (marks : List Mark) where
   IsFirstBefore s next a None = (m : Mark) → IsFirstOf s next m → a.second / 60 ≤ m.minute + 4
   IsFirstBefore s next a (Some m) = IsFirstOf s next m
 
--- what a session holds before one is asked: what was done in it, before
+-- the entries by hand that a session holds as one is asked: those that were done in it before
 abbrev pub held_before : (done : List Asked) → Session → Asked → List Manual
 held_before done s a = map hand_of (filter (λ b. is_behind s b && is_asked_before b a) done)
 
 -- ---- of a run
 
 module _ (r : Recording) (c : Card) where
+  -- the sessions of the card in the run, in order
   abbrev pub sessions : List Session
   sessions = sessions_in c (told_of r)
 
-  -- what slots and speed let pass for this card
+  -- the entries by hand that slots, speed and power let pass for this card
   abbrev pub asked : List Asked
   asked = filter (λ a. same_card c a.sitting.card) (asked_of r.log r.trace)
 
@@ -115,5 +121,6 @@ module _ (r : Recording) (c : Card) where
   abbrev pub done : List Asked
   done = done_by_hand r.stops asked
 
+  -- the same as entries by hand of a card: minute, slot and activity
   abbrev pub hands_done : List Manual
   hands_done = map hand_of done

@@ -30,7 +30,7 @@ abbrev pub card_image : Recording → Card → List ℕ
 card_image r A = r.card_a
 card_image r B = r.card_b
 
--- its seconds as they went
+-- how the seconds of a run went
 abbrev pub told_of : Recording → List ToldSecond
 told_of r = (went r.log r.trace).told
 
@@ -39,7 +39,7 @@ module _ (r : Recording) where
   abbrev pub unit_seen : List ℕ → UnitView
   unit_seen x = unit_view (own_number r.card_a) (own_number r.card_b) x
 
-  -- what a card brings
+  -- what a card brings to the run
   abbrev pub brought : Card → CardStart
   brought c = record {
     entries = (own_view (card_image r c)).held.entries;
@@ -48,7 +48,7 @@ module _ (r : Recording) where
     word = beyond (own_view (card_image r c));
   }
 
-  -- what both bring
+  -- what both cards bring to it
   abbrev pub start_of : Start
   start_of = record { card_a = brought A; card_b = brought B }
 
@@ -56,7 +56,7 @@ module _ (r : Recording) where
   abbrev pub history_of : List HistoryMinute
   history_of = unit_history r.rule start_of r.log (told_of r)
 
-  -- its histories with a lost minute
+  -- the histories of the run with a lost minute
   abbrev pub lost_of : List (List HistoryMinute)
   lost_of = with_lost r.rule start_of r.log (told_of r)
 

@@ -47,7 +47,7 @@ abbrev pub WasFound : (unit : List ℕ → Type 0) → Break → Type 0
 WasFound unit (Cut second kept failed begun) = (x : List ℕ) × unit x × (last_kept x ≡ kept)
 WasFound unit (Tear second slot failed begun late) = Unit {0}
 
--- or nothing was found
+-- nothing was found after a break: where it is a cut, it tells 0
 abbrev pub IsUnfound : Break → Type 0
 IsUnfound (Cut second kept failed begun) = kept ≡ 0
 IsUnfound (Tear second slot failed begun late) = Unit {0}

@@ -22,10 +22,11 @@ abbrev pub identification_widths : List ℕ
 identification_widths = 1 ∷ 16 ∷ 36 ∷ 4 ∷ 4 ∷ 4 ∷ 36 ∷ 36 ∷ 4 ∷ 2 ∷ []
 
 module _ (r : Recording) where
-  -- the holder of a card, by its image at the start
+  -- the bytes of a card's file Identification, by its image at the start
   abbrev pub identification : Card → List ℕ
   identification c = file_bytes (own_sizes (card_image r c)) 0x0520 (card_image r c)
 
+  -- the holder of a card, by its image at the start
   abbrev pub holder_of : Card → Holder
   holder_of c = record {
     surname = field_at identification_widths 6 (identification c);
@@ -34,15 +35,16 @@ module _ (r : Recording) where
     expiry = field_at identification_widths 5 (identification c);
   }
 
-  -- the seconds of the run, what they note, and their events
+  -- what was done in each second of the run
   abbrev pub done_in : List Done
   done_in = done_of r.log r.trace
 
+  -- what the run notes
   abbrev pub notes_in : List Note
   notes_in = notes_of r.log done_in
 
-  -- where these session times were found open on the cards that were accepted, by second and visit, and the cards were
-  -- torn out so
+  -- the events of a type that a run brings, where these session times were found open on the cards that were accepted,
+  -- by second and visit, and the cards were torn out so
   abbrev pub events_in : (sessions : ℕ → Visit → ℕ) → Tearing → (kind : ℕ) → List Event
   events_in sessions t kind = events_of kind (number_of r.unit SPEED_LIMIT) sessions t r.log r.trace
 

@@ -9,10 +9,11 @@ pub record CoursePlace : Type 0 where
   pub second : ℕ
   pub begun : ℕ
 
--- where a line was told, and where an entry by hand was asked
+-- the place of the course at which a refusal was told
 abbrev pub told_at : Refused → CoursePlace
 told_at l = record { second = l.second; begun = l.begun }
 
+-- the place of the course at which an entry by hand was asked
 abbrev pub asked_at : Asked → CoursePlace
 asked_at a = record { second = a.second; begun = a.begun }
 

@@ -1,3 +1,4 @@
+//! What is found of a card that was valid at the start: laws.
 ghost use Rattle.std.specs.Prelude.{◌≡◌, ℕ, ◌<◌, ◌≤◌, true};
 ghost use Rattle.device_rule.specs.trace_model.declared.Card.{Card};
 ghost use Rattle.device_rule.specs.log_model.declared.lines.Verdict.{Verdict};

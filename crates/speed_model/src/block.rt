@@ -5,7 +5,9 @@ use unit_model::layout::SPEED_SLOTS;
 /// A minute's speeds in km/h, second by second, and the number of its first second.
 #[derive(Clone, Copy, Debug, PartialEq, Eq)]
 pub struct Block {
+    /// The number of its first second, from 1970-01-01 00:00 GMT: a multiple of 60.
     pub time: u32,
+    /// The speeds in km/h, 0 to 255.
     pub speeds: [u8; 60],
 }
 

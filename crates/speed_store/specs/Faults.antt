@@ -5,6 +5,7 @@ use Rattle.gated_ring.specs.declared.fault.RingFault.TheVariants.{Failed as Ring
 use Rattle.speed_store.specs.declared.fault.SpeedFault.{SpeedFault}
 use Rattle.speed_store.specs.declared.fault.SpeedFault.TheVariants.{Failed, BadPointer}
 
+-- a fault of the ring as one of the blocks
 abbrev pub of_ring : RingFault → SpeedFault
 of_ring RingFailed = Failed
 of_ring (RingBad v) = BadPointer v

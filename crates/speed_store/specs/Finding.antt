@@ -7,10 +7,11 @@ use Rattle.speed_model.specs.declared.block.Block.{Block}
 use Rattle.speed_model.specs.Stored.{speed_ring}
 use Rattle.speed_store.specs.declared.finding.Found.{Found}
 
--- the index after the pointer, round the end, and the one so many steps behind an index
+-- the index after the pointer, round the end
 abbrev pub after : (pointer : ℕ) → ℕ
 after pointer = if nat_lt pointer 1439 then pointer + 1 else 0
 
+-- and the one so many steps behind an index
 abbrev pub turned : (first step : ℕ) → ℕ
 turned first step = if nat_lt (first + step) BLOCK_SLOTS then first + step else first + step - BLOCK_SLOTS
 

@@ -1,3 +1,4 @@
+//! Why the blocks of a unit are not read.
 use gated_ring::RingFault;
 use tach_media::Failed;
 

@@ -58,7 +58,11 @@ fn after(pointer: u32) -> u32
     ensures next { result ≡ after pointer }
     ensures below { result < BLOCK_SLOTS }
 {
-    if pointer < 1439 { pointer + 1 } else { 0 }
+    if pointer < BLOCK_SLOTS - 1 {
+        pointer + 1
+    } else {
+        0
+    }
 }
 
 /// The index so many steps behind another, round the end.

@@ -1,3 +1,4 @@
+//! Laws on the definitions of specs/: they run nothing, and their contracts say what is proved of them.
 ghost use Rattle.std.specs.Prelude.{◌≡◌, ◌⊎◌, ℕ, ◌+◌, ◌≤◌, List, [], ◌∷◌, ◌++◌, length, map};
 ghost use Rattle.card_layout.specs.Images.{SameOutside};
 ghost use Rattle.unit_model.specs.declared.layout.TheConstants.{SPEEDS};

@@ -5,11 +5,9 @@ ghost use Rattle.event_model.specs.Spans.{SpeedSecond, at_speed};
 ghost use Rattle.speed_model.specs.Blocks.{blocks_of, is_moving};
 ghost use Rattle.speed_store.specs.Feeding.{KeepsSpeedsOf, Follows, block_in};
 
+use activity_codec::MINUTE_SECONDS;
 use speed_model::Block;
 use std::marker::Model;
-
-/// How many seconds a minute has.
-const SECONDS: u32 = 60;
 
 /// The speeds of the minute that goes on, as far as they were fed: all of its seconds, or those from the span's first
 /// on.
@@ -56,14 +54,14 @@ impl SpeedMinute {
         ensures whole { IfSome result (λ b. length b.speeds ≡ 60) }
     {
         self.put(n, speed);
-        let behind = second % SECONDS + n;
-        if behind < SECONDS {
+        let behind = second % MINUTE_SECONDS + n;
+        if behind < MINUTE_SECONDS {
             return None;
         }
-        self.close(second - (SECONDS - n))
+        self.close(second - (MINUTE_SECONDS - n))
     }
 
-    // So many seconds more.
+    /// So many seconds more.
     fn put(&mut self, n: u32, speed: u8)
         requires { length self.old + n ≤ 60 }
         ensures { self.new ≡ self.old ++ replicate n speed }
@@ -73,13 +71,13 @@ impl SpeedMinute {
         self.count = end;
     }
 
-    // The minute is over, which began at this second.
+    /// The minute is over, which began at this second.
     fn close(&mut self, time: u32) -> Option<Block>
         ensures block { result ≡ block_in time self.old }
         ensures time { IfSome result (λ b. b.time ≡ time) }
         ensures none { self.new ≡ [] }
     {
-        let is_whole = self.count == 60;
+        let is_whole = self.count == MINUTE_SECONDS as usize;
         self.count = 0;
         if is_whole && moves(&self.speeds) {
             Some(Block {
@@ -92,7 +90,7 @@ impl SpeedMinute {
     }
 }
 
-// Whether a speed above 0 is among these.
+/// Whether a speed above 0 is among these.
 fn moves(speeds: &[u8]) -> bool
     ensures { result ≡ is_moving speeds.now }
 {

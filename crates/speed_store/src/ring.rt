@@ -24,7 +24,7 @@ pub fn blocks() -> Ring
     Ring::at(SPEEDS.place, BLOCK_SIZE, BLOCK_SLOTS, POINTER, 0)
 }
 
-// A block in bytes: its time, and its speeds.
+/// A block in bytes: its time, and its speeds.
 fn write_block(block: &Block, out: &mut [u8])
     requires size { length out.old ≡ BLOCK_SIZE }
     ensures bytes { out.new ≡ block_bytes block.now }

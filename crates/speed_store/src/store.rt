@@ -108,7 +108,7 @@ impl SpeedStore {
         Ok(())
     }
 
-    // One block more, which took another's place or not.
+    /// One block more, which took another's place or not.
     fn grow(&mut self, used: bool)
         ensures { self.new ≡ with_one self.old used }
     {
@@ -119,7 +119,7 @@ impl SpeedStore {
     }
 }
 
-// Where the time of a block stands.
+/// Where the time of a block stands.
 pub(crate) fn time_place(index: u32) -> u32
     requires { index < BLOCK_SLOTS }
     ensures place { result ≡ gate_of speed_ring index }
@@ -128,7 +128,7 @@ pub(crate) fn time_place(index: u32) -> u32
     SPEEDS.place + POINTER as u32 + index * BLOCK_SIZE
 }
 
-// How many blocks one with this time is.
+/// How many blocks one with this time is.
 fn one_if(time: u32) -> u16
     ensures value { result ≡ (if time == 0 then 0 else 1) }
     ensures few { result ≤ 1 }
@@ -136,7 +136,7 @@ fn one_if(time: u32) -> u16
     if time == 0 { 0 } else { 1 }
 }
 
-// How many blocks are there.
+/// How many blocks are there.
 fn count_there<M: Medium>(unit: &mut M) -> Result<u16, Failed>
     requires works { (M.state unit.old).works ≡ true }
     requires unit { (M.state unit.old).size ≡ IMAGE_SIZE }

@@ -29,6 +29,7 @@ image_after [] bytes image = image
 image_after (e ∷ entries) bytes image = image_after entries (drop e.len bytes)
     (image_left e.left e.place (take e.len bytes) image)
 
+-- the image after all writes of a history
 abbrev pub image_of : History → List ℕ
 image_of h = image_after h.entries h.written h.start
 

@@ -169,6 +169,7 @@ pub record Alters {T E : Type 0} (result : Result T E) (old new : State) (most_b
 abbrev pub lent : GName → State → State
 lent name s = record s { layers = Reference name ∷ s.layers }
 
+-- a coherent medium is coherent through a reference too
 pub lent_coherent : (name : GName) (s : State) → IsCoherent s → IsCoherent (lent name s)
 lent_coherent name s whole = record {
   sized = whole.sized;

@@ -39,6 +39,7 @@ memory_state h counts = record {
 abbrev pub AreCounted : History → Counts → Type 0
 AreCounted h counts = (t n : ℕ) → BrokenAsBegun h.entries t n → n ≤ counts.breakdowns
 
+-- a medium in memory is coherent, whatever its history
 pub coherent : (h : History) (counts : Counts) → IsCoherent (memory_state h counts)
 coherent h counts = record {
   sized = λ x is. let same : x ≡ image_of h = cc in omega (arith, ap length same);

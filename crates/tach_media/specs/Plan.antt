@@ -8,6 +8,7 @@ pub record Piece : Type 0 where
   pub place : ℕ
   pub bytes : List ℕ
 
+-- the write of these bytes at this place
 abbrev pub piece : ℕ → List ℕ → Piece
 piece place bytes = record { place = place; bytes = bytes }
 
@@ -32,6 +33,7 @@ pub record IsInside (from end : ℕ) (p : Piece) : Type 0 where
   pub behind : from ≤ p.place
   pub inside : p.place + length p.bytes ≤ end
 
+-- each write of a plan is such
 abbrev pub IsPlan : Pieces → Type 0
 IsPlan plan = AllByRecursion (IsInside plan.from plan.end) plan.pieces
 

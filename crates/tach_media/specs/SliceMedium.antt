@@ -20,6 +20,7 @@ slice_state bytes = record {
   layers = [];
 }
 
+-- a slice is a coherent medium
 pub slice_coherent : (bytes : List ℕ) → IsCoherent (slice_state bytes)
 slice_coherent bytes = record {
   sized = λ x is. let same : x

@@ -20,6 +20,7 @@ untold_state size writable clock works faults
       layers = [];
     }
 
+-- a medium that tells no image is coherent
 pub untold : (size : ℕ) (writable : List (ℕ × ℕ)) (clock : ℕ) (works : Bool) (faults breakdowns : ℕ)
     → IsCoherent (untold_state size writable clock works faults breakdowns)
 untold size writable clock works faults breakdowns = record {

@@ -1,3 +1,4 @@
+//! A medium that is not there.
 ghost use Rattle.std.specs.Prelude.{◌≡◌, false};
 ghost use Rattle.tach_media.specs.Medium.{IsUntouched};
 

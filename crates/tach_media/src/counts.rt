@@ -1,3 +1,4 @@
+//! What a device counts of its failures.
 ghost use Rattle.std.specs.Prelude.{◌≡◌, ◌+◌, ◌≤◌, false, true};
 ghost use Rattle.tach_media.specs.Medium.{Rose};
 

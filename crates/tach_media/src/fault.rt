@@ -1,3 +1,4 @@
+//! The failures of a device, and of want of memory.
 use std::alloc::AllocError;
 
 /// The one fault of the outside: a call on a source, a sink, a medium or a chip did not do its work.

@@ -1,3 +1,4 @@
+//! A file of the file system as a medium.
 ghost use Rattle.std.specs.Prelude.{◌≡◌, None, true, false, is_some};
 ghost use Rattle.tach_media.specs.Files.{missing_in, unlocked};
 ghost use Rattle.tach_media.specs.Medium.{IsUntouched};
@@ -112,7 +113,7 @@ impl<'a, R: Files<File = File>> FileMedium<'a, R> {
         FileMedium::asking(files, path, size, Access::Reading)
     }
 
-    // One that asks so for its file.
+    /// One that asks so for its file.
     fn asking(files: &'a R, path: &'a str, size: u32, access: Access) -> FileMedium<'a, R>
         ensures untouched { IsUntouched size (⟦<FileMedium<'a, R> as Medium>⟧.state result) }
         ensures missing { missing_in result.backing ≡ None }
@@ -211,7 +212,7 @@ impl<'a, R: Files<File = File>> Medium for FileMedium<'a, R> {
     fn holds_bytes(&self) {}
 }
 
-// Opens the file, or makes it, at the first call.
+/// Opens the file, or makes it, at the first call.
 fn reach<R: Files<File = File>>(
     files: &R,
     path: &str,
@@ -232,7 +233,7 @@ fn reach<R: Files<File = File>>(
     }
 }
 
-// The file that nobody else has, to be read and written.
+/// The file that nobody else has, to be read and written.
 fn owned<R: Files<File = File>>(files: &R, path: &str, size: u32) -> Result<File, Unreached> {
     let mut options = OpenOptions::new();
     options.read(true).write(true);
@@ -249,7 +250,7 @@ fn owned<R: Files<File = File>>(files: &R, path: &str, size: u32) -> Result<File
     }
 }
 
-// The file that only others who read it have, to be read. One that is to be made is made first.
+/// The file that only others who read it have, to be read. One that is to be made is made first.
 fn shared<R: Files<File = File>>(files: &R, path: &str, size: u32) -> Result<File, Unreached> {
     if is_pipe(files, path) {
         return Err(Unreached::Refused);
@@ -267,7 +268,7 @@ fn shared<R: Files<File = File>>(files: &R, path: &str, size: u32) -> Result<Fil
     lent(owned(files, path, size)?)
 }
 
-// A file that nobody else has locked.
+/// A file that nobody else has locked.
 fn locked(file: File) -> Result<File, Unreached> {
     match file.try_lock() {
         Ok(()) => Ok(file),
@@ -275,7 +276,7 @@ fn locked(file: File) -> Result<File, Unreached> {
     }
 }
 
-// A file that nobody has locked but to read it.
+/// A file that nobody has locked but to read it.
 fn lent(file: File) -> Result<File, Unreached> {
     match file.try_lock_shared() {
         Ok(()) => Ok(file),
@@ -283,7 +284,7 @@ fn lent(file: File) -> Result<File, Unreached> {
     }
 }
 
-// Why a file is not locked: somebody else has its lock, or its file system has none.
+/// Why a file is not locked: somebody else has its lock, or its file system has none.
 fn unlocked(refusal: TryLockError) -> Unreached
     ensures { result ≡ unlocked refusal }
 {
@@ -293,13 +294,13 @@ fn unlocked(refusal: TryLockError) -> Unreached
     }
 }
 
-// Whether a file has no byte. Whoever makes one holds its lock, so of one that is locked here it says that a making was
-// stopped.
+/// Whether a file has no byte. Whoever makes one holds its lock, so of one that is locked here it says that a making
+/// was stopped.
 fn is_empty(file: &File) -> bool {
     matches!(file.read_at(&mut [0; 1], 0), Ok(0))
 }
 
-// Whether it is a pipe, which is no medium: to open one to read waits for another program that writes.
+/// Whether it is a pipe, which is no medium: to open one to read waits for another program that writes.
 fn is_pipe<R: Files<File = File>>(files: &R, path: &str) -> bool {
     match fs::metadata(files, path) {
         Ok(metadata) => metadata.file_type().is_fifo(),
@@ -307,8 +308,8 @@ fn is_pipe<R: Files<File = File>>(files: &R, path: &str) -> bool {
     }
 }
 
-// A new file of so many zeros. One that could be neither locked nor filled, or whose name does not stand in its folder,
-// is taken away again; one that another program has locked meanwhile is left to it, which fills it.
+/// A new file of so many zeros. One that could be neither locked nor filled, or whose name does not stand in its
+/// folder, is taken away again; one that another program has locked meanwhile is left to it, which fills it.
 fn made<R: Files<File = File>>(files: &R, path: &str, size: u32) -> Result<File, Unreached> {
     let mut options = OpenOptions::new();
     options.read(true).write(true).create_new(true);
@@ -327,7 +328,7 @@ fn made<R: Files<File = File>>(files: &R, path: &str, size: u32) -> Result<File,
     Err(unreached)
 }
 
-// Fills a file that has no byte. One that can't be filled has none again, so that the next call makes it anew.
+/// Fills a file that has no byte. One that can't be filled has none again, so that the next call makes it anew.
 fn refilled<R: Files<File = File>>(
     files: &R,
     path: &str,
@@ -341,8 +342,8 @@ fn refilled<R: Files<File = File>>(
     done
 }
 
-// Fills a file with so many zeros, and waits until they and its name stand on the disk. It has its name still: another
-// program that could not fill it may have taken it away before this one locked it.
+/// Fills a file with so many zeros, and waits until they and its name stand on the disk. It has its name still: another
+/// program that could not fill it may have taken it away before this one locked it.
 fn filled<R: Files<File = File>>(
     files: &R,
     path: &str,
@@ -360,7 +361,7 @@ fn filled<R: Files<File = File>>(
     }
 }
 
-// Whether a file has a name.
+/// Whether a file has a name.
 fn has_name(file: &File) -> bool {
     match file.metadata() {
         Ok(metadata) => metadata.nlink() > 0,
@@ -368,7 +369,7 @@ fn has_name(file: &File) -> bool {
     }
 }
 
-// Waits until the name of a file stands in its folder.
+/// Waits until the name of a file stands in its folder.
 fn named<R: Files<File = File>>(files: &R, path: &str) -> Result<(), Unreached> {
     let folder = match path.rsplit_once('/') {
         None => ".",
@@ -401,7 +402,7 @@ fn write(backing: &Backing, place: u32, bytes: &[u8]) -> bool {
     }
 }
 
-// Waits until what was written stands on the disk. A file of which that cannot be said is lost.
+/// Waits until what was written stands on the disk. A file of which that cannot be said is lost.
 fn stands(access: Access, backing: &mut Backing) -> bool
     ensures { result ≡ true → missing_in backing.new ≡ None }
 {

@@ -1,3 +1,4 @@
+//! A medium through a reference.
 use crate::{Failed, Medium};
 
 impl<M: Medium> Medium for &mut M {

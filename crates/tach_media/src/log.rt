@@ -1,3 +1,4 @@
+//! The log of a medium in memory: each write that was begun, and what is left of it.
 ghost use Rattle.std.specs.Prelude.{◌≡◌, ◌≤◌, ◌+◌, ◌<◌, ◌^◌, ◌++◌, ◌∷◌, [], length, vec_len, vec_capacity, IfOk};
 ghost use Rattle.std.specs.Bool.{OnTrue, OnFalse};
 ghost use Rattle.card_layout.specs.Fields.{IsBytes};
@@ -69,6 +70,10 @@ impl Model for Log {
 
 impl Log {
     /// No write yet, and room for so many, with so many bytes.
+    ///
+    /// # Errors
+    ///
+    /// `AllocError` where memory runs out.
     pub fn new(
         alloc: Global,
         image: Vec<u8>,
@@ -165,7 +170,7 @@ impl Log {
     }
 }
 
-// Adds a write to a log that has room for it.
+/// Adds a write to a log that has room for it.
 fn append(log: &mut Vec<Entry>, written: &mut Vec<u8>, entry: Entry, bytes: &[u8])
     requires room { vec_len log.old < vec_capacity log.old }
     requires room_for_bytes { vec_len written.old + length bytes.now ≤ vec_capacity written.old }
@@ -178,7 +183,7 @@ fn append(log: &mut Vec<Entry>, written: &mut Vec<u8>, entry: Entry, bytes: &[u8
     log.push(entry).unwrap();
 }
 
-// Does to an image what is left of a write.
+/// Does to an image what is left of a write.
 fn apply(image: &mut [u8], place: usize, bytes: &[u8], left: Left)
     requires { place + length bytes.now ≤ length image.old }
     ensures { image.new ≡ image_left left place bytes.now image.old }

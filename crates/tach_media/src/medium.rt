@@ -1,3 +1,4 @@
+//! Memory that a stop may cut off.
 ghost use Rattle.std.specs.Prelude.{◌≡◌, ◌≤◌, ◌<◌, ◌+◌, length, OnOk, IfSome, option_map, is_err};
 ghost use Rattle.tach_media.specs.Medium.{State, IsCoherent, HoldsBytes, LiesInside, IsPartlyWritten, Unchanged};
 ghost use Rattle.tach_media.specs.Medium.{bytes_at, put, LeavesOnly, Reads, IsSettled, HasCause, Rose, last_count};

@@ -1,3 +1,4 @@
+//! A medium in memory, which tells what each stop may leave of it.
 ghost use Rattle.std.specs.Prelude.{◌≡◌, ◌<◌, ◌≤◌, ◌^◌, ◌+◌, length, min, true, [], IfOk, IfSome};
 ghost use Rattle.std.specs.Prelude.{IsOk, OnOk, option_map, find, is_err, ◌==◌};
 ghost use Rattle.tach_media.specs.Medium.{IsNew, bytes_at, put, last_count, LeavesOnly, Reads, IsSettled, HasCause};
@@ -31,6 +32,10 @@ impl Model for MemMedium {
 
 impl MemMedium {
     /// A medium with this image, and room for a log of so many writes with so many bytes.
+    ///
+    /// # Errors
+    ///
+    /// `Memory` where memory runs out.
     pub fn new(
         alloc: Global,
         image: Vec<u8>,
@@ -158,7 +163,7 @@ impl Medium for MemMedium {
     }
 }
 
-// What is to be left of the call with this number, where it is to fail.
+/// What is to be left of the call with this number, where it is to fail.
 fn stop_at(stops: &[Stop], call: u64) -> Option<Left>
     ensures { result ≡ option_map (λ s. s.left) (find (λ s. s.call == call) stops.now) }
 {

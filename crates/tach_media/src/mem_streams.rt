@@ -1,3 +1,4 @@
+//! Sources and sinks in memory.
 ghost use Rattle.std.specs.Prelude.{◌≡◌, ◌↔◌, ◌⊎◌, ◌+◌, ◌-◌, ◌<◌, ◌≤◌, drop, take, min, length, vec_capacity, Contains};
 ghost use Rattle.std.specs.Prelude.{IfOk, IsErr};
 ghost use Rattle.std.specs.declared.option.Option.TheVariants.{Some as Told};
@@ -48,7 +49,7 @@ impl MemSource {
     }
 }
 
-// Copies as many bytes as there are, or as there is room for.
+/// Copies as many bytes as there are, or as there is room for.
 fn copy_front(from: &[u8], to: &mut [u8]) -> usize
     ensures count { result ≡ min (length from.now) (length to.old) }
     ensures copied { take result to.new ≡ take result from.now }

@@ -1,3 +1,4 @@
+//! Writes that are known before the first of them is made.
 ghost use Rattle.std.specs.Prelude.{◌≡◌, ◌≤◌, ◌<◌, ◌+◌, ◌-◌, ◌∷◌, [], length, is_err, true};
 ghost use Rattle.tach_media.specs.Medium.{LiesInside, LeavesOnly};
 ghost use Rattle.tach_media.specs.Plan.{piece, more, none, PutsAll, AreShort, IsAfterSome};
@@ -64,7 +65,7 @@ impl<const N: usize, const B: usize> Plan<N, B> {
     }
 }
 
-// These bytes, for which there is room.
+/// These bytes, for which there is room.
 fn kept<const B: usize>(bytes: &[u8]) -> ArrayVec<u8, B>
     requires { length bytes.now ≤ B }
     ensures { result.items ≡ bytes.now }
@@ -76,6 +77,10 @@ fn kept<const B: usize>(bytes: &[u8]) -> ArrayVec<u8, B>
 
 /// Writes the pieces of a plan, one after the other. At each moment of the call those before one are written, and that
 /// one is cut short; where none has more than four bytes, the first few are written.
+///
+/// # Errors
+///
+/// `Failed` where a write failed; none is begun behind it.
 pub fn put_pieces<M: Medium, const N: usize, const B: usize>(
     medium: &mut M,
     plan: &Plan<N, B>,

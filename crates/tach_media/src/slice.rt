@@ -1,3 +1,4 @@
+//! A slice as a medium that is only read.
 ghost use Rattle.std.specs.Prelude.{◌≡◌, ◌+◌, ◌<◌, ◌≤◌, ◌^◌, length, IfSome, IsOk, IsErr, OnOk, is_err};
 ghost use Rattle.tach_media.specs.Medium.{bytes_at, LeavesOnly, Reads, HasCause, Unchanged, revivable};
 ghost use Rattle.tach_media.specs.SliceMedium.{slice_state, slice_coherent};

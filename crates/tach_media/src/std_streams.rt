@@ -1,3 +1,4 @@
+//! Readers and writers of the library as sources and sinks.
 ghost use Rattle.std.specs.Prelude.{◌≡◌, ◌<◌, length, take, IfOk, OnErr};
 ghost use Rattle.std.specs.Io.{ReadsAtMost, WritesAtMost};
 ghost use Rattle.std.specs.Io.KnownBytes.{Appends, Consumes, IsAtEnd, Keeps};
@@ -78,7 +79,7 @@ impl<W: Write> Sink for StdSink<W> {
     }
 }
 
-// One read, made again where a signal interrupts it.
+/// One read, made again where a signal interrupts it.
 fn read_again<R: Read>(reader: &mut R, buf: &mut [u8]) -> io::Result<usize>
     ensures bound { ReadsAtMost result buf.new }
     ensures ok { IfOk result (λ n. Consumes (R.remaining reader.old) (R.remaining reader.new) (take n buf.new)) }
@@ -98,7 +99,7 @@ fn read_again<R: Read>(reader: &mut R, buf: &mut [u8]) -> io::Result<usize>
     Err(Error::from(ErrorKind::Interrupted))
 }
 
-// One write, made again where a signal interrupts it.
+/// One write, made again where a signal interrupts it.
 fn write_again<W: Write>(writer: &mut W, piece: &[u8]) -> io::Result<usize>
     ensures bound { WritesAtMost result piece.now }
     ensures ok { IfOk result (λ n. Appends (W.contents writer.old) (W.contents writer.new) (take n piece.now)) }

@@ -1,3 +1,4 @@
+//! Where a medium in memory is to fail.
 use crate::Left;
 
 /// Makes one call of a medium in memory fail. Reads and writes are numbered together, from 0. Of a read nothing is

@@ -1,3 +1,4 @@
+//! A whole source read, and bytes written whole.
 ghost use Rattle.std.specs.Prelude.{◌≡◌, ◌≤◌, ◌<◌, ◌↔◌, ◌^◌, IfOk, OnOk, OnErr, IsErrOf, vec_len};
 ghost use Rattle.std.specs.Io.KnownBytes.{Appends, Consumes, IsAtEnd};
 ghost use Rattle.tach_media.specs.Medium.{Rose};
@@ -9,14 +10,21 @@ use std::alloc::Global;
 /// Why a source was not read to its end.
 #[derive(Clone, Copy, Debug, PartialEq, Eq)]
 pub enum TakeFault {
+    /// A read failed.
     ReadFault,
+    /// More bytes came than were to be taken.
     TooLong,
+    /// Memory ran out.
     Memory,
 }
 
 /// Reads a source to its end, of at most `most` bytes.
 ///
-/// `ReadFault` comes only where a read failed, `TooLong` exactly where more than `most` bytes came.
+/// # Errors
+///
+/// 1. `ReadFault` where a read failed.
+/// 2. `TooLong` exactly where more than `most` bytes came.
+/// 3. `Memory` where memory ran out.
 pub fn take_all<S: Source>(alloc: Global, source: &mut S, most: u32) -> Result<Vec<u8>, TakeFault>
     ensures bytes { IfOk result (λ bytes. Consumes (S.left source.old) (S.left source.new) bytes.items) }
     ensures end { OnOk result (IsAtEnd (S.left source.new)) }
@@ -47,7 +55,11 @@ pub fn take_all<S: Source>(alloc: Global, source: &mut S, most: u32) -> Result<V
     unreachable!()
 }
 
-/// Writes all of the bytes. After `Failed`, which comes only where a write failed, a front of them was written.
+/// Writes all of the bytes.
+///
+/// # Errors
+///
+/// `Failed` where a write failed; a front of the bytes was written then.
 pub fn put_all<K: Sink>(sink: &mut K, bytes: &[u8]) -> Result<(), Failed>
     ensures ok { OnOk result (Appends (K.held sink.old) (K.held sink.new) bytes.now) }
     ensures err { OnErr result (AppendsFront (K.held sink.old) (K.held sink.new) bytes.now) }

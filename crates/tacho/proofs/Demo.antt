@@ -23,7 +23,8 @@ use Rattle.run_outcome.specs.declared.outcome.Outcome.{Outcome}
 use Rattle.unit_download.specs.declared.fault.DownloadFault.{DownloadFault}
 use Rattle.unit_download.specs.declared.fault.DownloadFault.TheVariants as download
 use Rattle.unit_download.specs.Ending.{has_failed, IfBad}
-use Rattle.trace_text.specs.declared.drawn_trace.TheConstants.{PARTS, DAYS, DAY_SECONDS, FIRST_SECOND}
+use Rattle.activity_codec.specs.declared.day.TheConstants.{DAY_SECONDS}
+use Rattle.trace_text.specs.declared.drawn_trace.TheConstants.{PARTS, DAYS, FIRST_SECOND}
 use Rattle.trace_text.specs.Demo.{starts, part_of, parts_of, day_of, days_of, demo_items}
 use Rattle.recorder_with_cards.proofs.Writes.{writes-few}
 use Rattle.trace_text.proofs.Groups.{length-starts, demo-whole}

@@ -19,6 +19,8 @@ use Rattle.recorder_with_cards.specs.Ends.{BeginAs, MayRecord, EndsTrace, IsKept
 use Rattle.recorder_with_cards.specs.Gone.{IsRefusedBy}
 use Rattle.recorder_with_cards.specs.Writes.{WritesIn}
 use Rattle.tacho.specs.declared.anew.AnewFault.TheVariants.{Kept}
+use Rattle.unit_memory.specs.Formats.{format_most}
+use Rattle.tacho.specs.Formatting.{issue_most}
 use Rattle.tacho.specs.Anew.{began_at, MayBeAnew, EndsAnew, IsFailed, IsFailure}
 use Rattle.tacho.proofs.Recordings.{none-bad}
 use Rattle.tacho.proofs.DemoNumbers.{ends-by}
@@ -46,7 +48,7 @@ card-new image old new whole size behind is tells settled =
     one-only image new (some-tells image old.image new.image (put 0 image) is tells (λ x at. let long = whole.sized x at in put-whole image x (omega (arith, long, size, behind)))) settled
 
 -- so the run promises what it does from then on
-pub ends-anew : (x a b : List ℕ) (start : ℕ) (items : List Item) (out : Outcome) (U V X Y Z : State) (now : Devices) → U.clock ≤ V.clock → X.clock ≤ Y.clock → V.breakdowns ≡ U.breakdowns → Y.breakdowns ≡ X.breakdowns → V.clock ≤ now.unit.clock → Y.clock ≤ now.card_a.clock → V.clock ≤ U.clock + 10324 → Y.clock ≤ X.clock + 101 →
+pub ends-anew : (x a b : List ℕ) (start : ℕ) (items : List Item) (out : Outcome) (U V X Y Z : State) (now : Devices) → U.clock ≤ V.clock → X.clock ≤ Y.clock → V.breakdowns ≡ U.breakdowns → Y.breakdowns ≡ X.breakdowns → V.clock ≤ now.unit.clock → Y.clock ≤ now.card_a.clock → V.clock ≤ U.clock + format_most → Y.clock ≤ X.clock + issue_most →
     WritesIn start items (length (cuts true (log_of out))) (devices V Y Z) now → EndsTrace x a b start items out (devices V Y Z) now → EndsAnew x a b start items out (devices U X Z) now
 ends-anew x a b start items out U V X Y Z now unit card unit_same card_same before before_card made made_card most h = record {
   unit_clock = V.clock;

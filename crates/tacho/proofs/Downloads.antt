@@ -12,8 +12,7 @@ use Rattle.unit_minutes.specs.Reading.{ReadsIfAny}
 use Rattle.unit_download.specs.declared.wire.Passed.{Passed}
 use Rattle.unit_download.specs.declared.fault.DownloadFault.{DownloadFault}
 use Rattle.unit_download.specs.declared.fault.DownloadFault.TheVariants as download
-use Rattle.unit_download.specs.Ending.{IsDownload, IfBad, has_failed}
-use Rattle.noisy_download.specs.Ending.{IsDownloaded}
+use Rattle.unit_download.specs.Ending.{IsDownload, IfBad, has_failed, IsDownloaded}
 use Rattle.run_outcome.specs.declared.outcome.Outcome.{Outcome}
 use Rattle.tacho.specs.declared.end.Fault.TheVariants.{Done, Usage, BadUnit, ReadFault, WriteFault, MediumFault, Memory, Changed}
 use Rattle.tacho.specs.declared.forms.Form.TheVariants.{Download, DownloadNoisy}
@@ -154,21 +153,16 @@ download-causes old new r write reads_count writes_count reads = record {
 
 -- so the call ends that was asked for it
 pub download-ends : (old new : Outside) (wire : List Passed) (r : Result (Unit {0}) DownloadFault)
-    → IsDownload r old.unit.image wire old.sink.held new.sink.held
-    → OnOk r (IfSome old.unit.image (λ x. Decodes x × Appends old.sink.held new.sink.held (unit_file x)))
-    → OnErr r (IfSome old.unit.image (λ x. AppendsFront old.sink.held new.sink.held (unit_file x)))
-    → (r ≡ Err download.Changed → IfSome old.unit.image (λ x. ⊥))
-    → IfErr r (λ fault. IfBad fault (λ p. IfSome old.unit.image (λ x. first_bad_place x ≡ Some p)))
-    → IfErr r (λ fault. IfBad fault (λ p. Keeps old.sink.held new.sink.held))
+    → IsDownloaded r old.unit.image wire old.sink.held new.sink.held
     → (r ≡ Err download.WriteFault → Rose old.sink.faults new.sink.faults)
     → old.source.faults ≤ new.source.faults → old.sink.faults ≤ new.sink.faults
     → ReadsIfAny old.unit new.unit (has_failed r)
     → (outcome : Outcome) → IsEmpty outcome
     → Ends (Some Download) old new (ended_with outcome wire (end_of_download r))
-download-ends old new wire r downloaded file front changed bad nothing write reads_count writes_count reads outcome none = record {
+download-ends old new wire r d write reads_count writes_count reads outcome none = record {
   status = refl;
   usage = (λ is. absurd (not-usage r is), λ no_form. absurd (cc));
-  form = download-form old new wire r downloaded file front changed bad nothing write reads;
+  form = download-form old new wire r d.downloaded d.file d.front d.changed d.bad d.nothing write reads;
   unrecorded = none;
   unpassed = tt;
   causes = download-causes old new r write reads_count writes_count reads;

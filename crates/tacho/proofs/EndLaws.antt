@@ -5,7 +5,8 @@ use Rattle.tach_media.specs.Medium.{Rose}
 use Rattle.trace_text.specs.declared.lines_trace.TraceFault.{TraceFault}
 use Rattle.trace_text.specs.declared.lines_trace.TraceFault.TheVariants as trace
 use Rattle.trace_text.specs.declared.lines_trace.Form.{Form}
-use Rattle.trace_text.specs.Judged.{IsBadText, IsLongText, IsFailure}
+use Rattle.trace_text.specs.declared.lines_trace.Trace.{Trace}
+use Rattle.trace_text.specs.Judged.{IsBadText, IsLongText, IsFailure, TraceIsRefused, TraceIsJudged}
 use Rattle.tacho.specs.declared.end.Fault.{Fault}
 use Rattle.tacho.specs.declared.end.Fault.TheVariants.{Done, BadTrace, TooLong, ReadFault, WriteFault, Memory}
 use Rattle.tacho.specs.End.{end_of, refusal_of, IsUnread, IsUnprinted}
@@ -20,6 +21,19 @@ refusal-bad _ n is = cc
 pub refusal-long : (fault : TraceFault) (n : ℕ) → refusal_of fault ≡ TooLong n → fault ≡ trace.TooLong n
 refusal-long (trace.TooLong m) n is = let e : m ≡ n = cc in ap trace.TooLong e
 refusal-long _ n is = cc
+
+pub refusal-read : (fault : TraceFault) → refusal_of fault ≡ ReadFault → fault ≡ trace.ReadFault
+refusal-read trace.ReadFault is = refl
+refusal-read (trace.BadLine n) is = absurd (cc)
+refusal-read (trace.TooLong n) is = absurd (cc)
+refusal-read trace.Memory is = absurd (cc)
+
+-- the sink is not used where no trace was read
+pub refusal-unwritten : (fault : TraceFault) → refusal_of fault ≡ WriteFault → ⊥
+refusal-unwritten trace.ReadFault is = cc
+refusal-unwritten (trace.BadLine n) is = cc
+refusal-unwritten (trace.TooLong n) is = cc
+refusal-unwritten trace.Memory is = cc
 
 failure-unread : (fault : TraceFault) → IsFailure fault → IsUnread (refusal_of fault)
 failure-unread trace.ReadFault is = tt
@@ -76,4 +90,15 @@ judges-trace old new (Err fault) bad long read_fault finds_bad finds_long = reco
   too_long = λ text n told is. long text n told (ap Err is);
   finds_bad_trace = λ text n told is no_read. wanted-end fault (BadTrace n) (finds_bad text n told is) (λ e. no_read (read_fault (ap Err e)));
   finds_too_long = λ text n told is no_read. wanted-end fault (TooLong n) (finds_long text n told is) (λ e. no_read (read_fault (ap Err e)));
+}
+
+-- and so it does where no trace was read
+pub unread-judges : (form : Form) (old new : SourceTold) (fault : TraceFault) → TraceIsRefused form old.left old.faults new.faults (Err fault) → TraceIsJudged form old.left (Err fault) → JudgesTrace form old new (refusal_of fault)
+unread-judges form old new fault why judged = record {
+  bad_trace = λ text n told is. why.bad_line text n told (ap Err (refusal-bad fault n is));
+  too_long = λ text n told is. why.too_long text n told (ap Err (refusal-long fault n is));
+  finds_bad_trace = λ text n told is no_read.
+      wanted-end (refusal_of fault) (BadTrace n) (refused fault (trace.BadLine n) (judged.finds_bad_line text n told is)) (λ e. no_read (why.read_fault (ap Err (refusal-read fault e))));
+  finds_too_long = λ text n told is no_read.
+      wanted-end (refusal_of fault) (TooLong n) (refused fault (trace.TooLong n) (judged.finds_too_long text n told is)) (λ e. no_read (why.read_fault (ap Err (refusal-read fault e))));
 }

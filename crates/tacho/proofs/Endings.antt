@@ -8,7 +8,7 @@ use Rattle.run_model.specs.declared.Device.{Device}
 use Rattle.trace_text.specs.declared.lines_trace.Form.TheVariants.{Minutes as FormOfMinutes}
 use Rattle.minute_model.specs.declared.Rule.{Rule}
 use Rattle.trace_model.specs.declared.Item.{Item}
-use Rattle.trace_text.specs.Judged.{IsTraceText, IsBadText, IsLongText}
+use Rattle.trace_text.specs.Judged.{IsTraceText, IsBadText, IsLongText, most_bytes}
 use Rattle.tacho.specs.declared.end.Fault.{Fault}
 use Rattle.tacho.specs.declared.end.Fault.TheVariants.{Done, Usage, BadTrace, TooLong, ReadFault, WriteFault, MediumFault, Memory, BadFile}
 use Rattle.tacho.specs.declared.forms.Form.{Form}
@@ -17,7 +17,7 @@ use Rattle.tacho.specs.declared.forms.Reading.{Reading}
 use Rattle.tacho.specs.End.{end_of, ended_by, IsUnread, IsUnprinted}
 use Rattle.tacho.specs.Outside.{Outside}
 use Rattle.tacho.specs.Minutes.{PrintsMinutes, IsMinutesEnd, EndsMinutes}
-use Rattle.tacho.specs.Read.{Prints, IsBad, IsReadingEnd, EndsReading, most_bytes}
+use Rattle.tacho.specs.Read.{Prints, IsBad, IsReadingEnd, EndsReading}
 use Rattle.tacho.specs.Help.{help_text, version_text, IsTextEnd, EndsText}
 use Rattle.run_outcome.specs.declared.outcome.Outcome.{Outcome}
 use Rattle.tacho.specs.Outcomes.{IsEmpty}

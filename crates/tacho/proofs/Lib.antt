@@ -10,6 +10,7 @@ pub mod EndLaws
 pub mod Endings
 pub mod Views
 pub mod Puts
+pub mod Printed
 pub mod Pieces
 pub mod Spared
 pub mod Formats

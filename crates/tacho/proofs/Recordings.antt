@@ -1,5 +1,5 @@
 -- How `record` ends, by what its calls answered: whatever the trace was recorded on.
-use Rattle.std.proofs.Common.{◌≡◌, ℕ, refl, sym, subst, List, [], ◌∷◌, Some}
+use Rattle.std.proofs.Common.{◌≡◌, ℕ, inl, refl, sym, subst, List, [], ◌∷◌, Some}
 use Rattle.std.specs.Prelude.{Result, Ok, Err, OnOk, IfErr, IsTrue}
 use Rattle.std.specs.List.{list_all}
 use Rattle.std.specs.Io.KnownBytes.{Appends, IsAtEnd}
@@ -8,7 +8,9 @@ use Rattle.tach_media.specs.Medium.{Rose}
 use Rattle.tach_media.specs.Streams.{AppendsFront}
 use Rattle.trace_model.specs.declared.Item.{Item}
 use Rattle.trace_text.specs.declared.lines_trace.Form.TheVariants.{Whole}
-use Rattle.trace_text.specs.Judged.{IsBadText, IsLongText}
+use Rattle.trace_text.specs.declared.lines_trace.TraceFault.{TraceFault}
+use Rattle.trace_text.specs.declared.lines_trace.TraceFault.TheVariants as trace
+use Rattle.trace_text.specs.Judged.{IsTraceText, IsBadText, IsLongText, IsFailure}
 use Rattle.unit_model.specs.Decoding.{Decodes, Check, first_failing, first_bad_place, checks}
 use Rattle.run_opening.specs.declared.fault.RunFault.{RunFault}
 use Rattle.run_opening.specs.declared.fault.RunFault.TheVariants as run
@@ -17,7 +19,7 @@ use Rattle.run_outcome.specs.Room.{IsReserved}
 use Rattle.tacho.specs.declared.end.Fault.{Fault}
 use Rattle.tacho.specs.declared.end.Fault.TheVariants.{Done, Usage, BadTrace, TooLong, BadUnit, ClockBack, SameCard, ReadFault, WriteFault, MediumFault, Memory, BadFile, BadCard, Changed, FileFault, LinkEnded}
 use Rattle.tacho.specs.declared.forms.Form.TheVariants.{Record}
-use Rattle.tacho.specs.End.{end_of, ended_by, IsBeforeDevices}
+use Rattle.tacho.specs.End.{end_of, ended_by, refusal_of, IsBeforeDevices}
 use Rattle.tacho.specs.Outside.{Outside, SourceTold}
 use Rattle.tacho.specs.Program.{Ends, HasCauses}
 use Rattle.tacho.specs.Reading.{JudgesTrace}
@@ -114,6 +116,68 @@ refused-ends (BadCard field) refused = refused
 refused-ends Changed refused = refused
 refused-ends FileFault refused = refused
 refused-ends LinkEnded refused = refused
+
+-- NO TRACE WAS READ
+pub ends-unread : (old new : Outside) (outcome : Outcome) (fault : TraceFault) → JudgesTrace Whole old.source new.source (refusal_of fault) → IsEmpty outcome
+    → ((text : List ℕ) (start : ℕ) (items : List Item) → old.source.left ≡ Some text → IsTraceText Whole text start items → IsFailure fault)
+    → (fault ≡ trace.ReadFault → Rose old.source.faults new.source.faults)
+    → EndsRecord old new outcome (refusal_of fault)
+ends-unread old new outcome trace.ReadFault judges empty failed rose = record {
+  ends = tt;
+  judges = judges;
+  read = λ run. absurd run;
+  unread = λ early. empty;
+  memory = λ start items told no_read early. absurd (no_read (rose refl));
+  on = inl tt;
+  printed = λ is. absurd (cc);
+  front = λ is. absurd (cc);
+}
+ends-unread old new outcome (trace.BadLine n) judges empty failed rose = record {
+  ends = tt;
+  judges = judges;
+  read = λ run. absurd run;
+  unread = λ early. empty;
+  memory = λ start items told no_read early. absurd (failed told.text start items told.told told.trace);
+  on = inl tt;
+  printed = λ is. absurd (cc);
+  front = λ is. absurd (cc);
+}
+ends-unread old new outcome (trace.TooLong n) judges empty failed rose = record {
+  ends = tt;
+  judges = judges;
+  read = λ run. absurd run;
+  unread = λ early. empty;
+  memory = λ start items told no_read early. absurd (failed told.text start items told.told told.trace);
+  on = inl tt;
+  printed = λ is. absurd (cc);
+  front = λ is. absurd (cc);
+}
+ends-unread old new outcome trace.Memory judges empty failed rose = record {
+  ends = tt;
+  judges = judges;
+  read = λ run. absurd run;
+  unread = λ early. empty;
+  memory = λ start items told no_read early. refl;
+  on = inl tt;
+  printed = λ is. absurd (cc);
+  front = λ is. absurd (cc);
+}
+
+-- THERE WAS NO MEMORY for what a trace can bring
+pub ends-short : (old new : Outside) (outcome : Outcome)
+    → ((text : List ℕ) (n : ℕ) → old.source.left ≡ Some text → IsBadText Whole text n → ⊥)
+    → ((text : List ℕ) (n : ℕ) → old.source.left ≡ Some text → IsLongText Whole text n → ⊥)
+    → IsEmpty outcome → EndsRecord old new outcome Memory
+ends-short old new outcome no_bad no_long empty = record {
+  ends = tt;
+  judges = judges-well old.source new.source Memory (λ n is. cc) (λ n is. cc) no_bad no_long;
+  read = λ run. absurd run;
+  unread = λ early. empty;
+  memory = λ start items told no_read early. refl;
+  on = inl tt;
+  printed = λ is. absurd (cc);
+  front = λ is. absurd (cc);
+}
 
 -- THE RUN WAS REFUSED
 pub ends-refused : (old new : Outside) (outcome : Outcome) (fault : Fault)

@@ -7,6 +7,8 @@ use Rattle.trace_model.specs.declared.Action.TheVariants.{Select, Insert, Withdr
 use Rattle.trace_model.specs.declared.Item.{Item}
 use Rattle.trace_model.specs.declared.Item.TheVariants.{Run, Off, Act}
 use Rattle.trace_model.specs.Trace.{TraceSecond, seconds_of}
+use Rattle.trace_text.specs.declared.lines_trace.Trace.{Trace}
+use Rattle.trace_text.specs.Trace.{IsWellFormed}
 use Rattle.minute_model.specs.declared.Rule.{Rule}
 use Rattle.run_model.specs.declared.Device.{Device}
 use Rattle.run_model.specs.declared.Device.TheVariants.{Unit as OfUnit, CardA, CardB}
@@ -24,7 +26,7 @@ use Rattle.history_model.specs.History.{unit_history, with_lost}
 use Rattle.gated_ring.specs.Ring.{Shape, IsDense, ring_list}
 use Rattle.message_model.specs.Records.{insertion_ring, unit_place_ring}
 use Rattle.unit_model.specs.declared.layout.TheConstants.{SPEED_LIMIT}
-use Rattle.unit_model.specs.Image.{recorded, last_kept, odometer_at, number_of}
+use Rattle.unit_model.specs.Image.{IsUnit, recorded, last_kept, odometer_at, number_of}
 use Rattle.unit_model.specs.Versions.{rule_of}
 use Rattle.safety_model.specs.Unit.{UnitSafe, HasEachDecided, IsFilled, issued_bytes, marks_of}
 use Rattle.note_model.specs.Odometer.{SpanFrom, AreSpansFrom, MayStore}
@@ -41,6 +43,8 @@ use Rattle.recorder_with_cards.specs.Words.{log_of, largest_number, IsFoundLater
 use Rattle.run_speeds.specs.Speeds.{HasSpeedRing, HasSpeeds}
 use Rattle.run_speeds.specs.Spans.{blocks_by, is_sure_block}
 use Rattle.run_outcome.specs.declared.outcome.Outcome.{Outcome}
+use Rattle.run_outcome.specs.Room.{IsReserved}
+use Rattle.recorder_with_cards.specs.Writes.{unit_writes}
 use Rattle.recorder_with_cards.specs.Ends.{recording_of}
 use Rattle.recorder_with_cards.specs.KeptAfter.{TellsKept}
 use Rattle.recorder_with_cards.specs.LastKept.{TellsLast}
@@ -64,16 +68,24 @@ needs_no_card (Act (Manual slot pick minute)) = false
 abbrev pub IsForUnit : List Item → Type 0
 IsForUnit items = AllByRecursion (λ item. IsTrue (needs_no_card item)) items
 
+-- a trace may be recorded on the unit alone, with this outcome, which has no line yet
+pub record MayBeAlone (trace : Trace) (outcome : Outcome) (unit : State) : Type 0 where
+  pub well : IsWellFormed trace.start trace.items
+  pub for_unit : IsForUnit trace.items
+  pub reserved : IsReserved trace.items outcome
+  pub sized : IsUnit unit
+
 -- ---- its log
 
 -- the seconds of a trace that begins at a second, as the run went
 abbrev pub told_of : Outcome → (start : ℕ) → List Item → List ToldSecond
 told_of o start items = (went (log_of o) (seconds_of start items)).told
 
--- the unit history of such a run by a rule of minutes, and its fronts up to a cut's limit, each with its lost minute
+-- the unit history of such a run by a rule of minutes
 abbrev pub history_of : Rule → Start → Outcome → (start : ℕ) → List Item → List HistoryMinute
 history_of rule cards o start items = unit_history rule cards (log_of o) (told_of o start items)
 
+-- its fronts up to a cut's limit, each with its lost minute
 abbrev pub lost_of : Rule → Start → Outcome → (start : ℕ) → List Item → List (List HistoryMinute)
 lost_of rule cards o start items = with_lost rule cards (log_of o) (told_of o start items)
 
@@ -194,6 +206,12 @@ IsRefusedAlone start before after old new
     fault = (IsUnitRefused start old new fault × LeavesOnly old new Unchanged × (after ≡ before)) ⊎ IsFoundLater fault
 
 -- ---- what its call says of failures
+
+-- WHATEVER FAILS: so many writes begin at most on the unit, where failed calls have cut its power so often, and it keeps
+-- its size
+pub record GoesAlone (start : ℕ) (items : List Item) (failed : ℕ) (U V : State) : Type 0 where
+  pub most : V.clock ≤ U.clock + unit_writes start items failed
+  pub unit : IsUnit V
 
 -- BREAKDOWNS OF THE UNIT ARE TOLD: each cut that a failed call made is one more; and where none has cut the power of a
 -- run that is recorded, it has not broken down, nor where no call on it failed; and it has not more often than those

@@ -1,24 +1,22 @@
 -- A run of a trace on a unit and a card that are made new before it (profile).
-use Rattle.std.specs.Prelude.{◌≡◌, ◌≤◌, ◌+◌, ℕ, List, length, true, is_some}
+use Rattle.std.specs.Prelude.{◌≡◌, ◌≤◌, ◌+◌, ℕ, List, true, is_some, length}
 use Rattle.tach_media.specs.Medium.{State, Rose}
 use Rattle.trace_model.specs.declared.Item.{Item}
 use Rattle.log_model.specs.Causes.{cuts}
-use Rattle.unit_model.specs.NewImage.{new_image}
-use Rattle.unit_memory.specs.declared.format.Identity.{Identity}
+use Rattle.card_layout.specs.declared.files.TheConstants.{LARGEST_IMAGE}
+use Rattle.unit_model.specs.Image.{IsUnit}
+use Rattle.unit_memory.specs.Formats.{format_most}
 use Rattle.safety_model.specs.Safe.{Devices}
 use Rattle.run_promise.specs.Opening.{BeginsAs}
-use Rattle.run_opening.specs.Opening.{faults_of}
+use Rattle.run_opening.specs.Opening.{faults_of, IsAsItWas}
 use Rattle.run_opening.specs.declared.fault.RunFault.TheVariants.{MediumFault, BadUnit, ClockBack, SameCard}
 use Rattle.run_outcome.specs.declared.outcome.Outcome.{Outcome}
-use Rattle.recorder_with_cards.specs.Ends.{EndsTrace}
-use Rattle.recorder_with_cards.specs.Words.{log_of}
+use Rattle.recorder_with_cards.specs.Words.{HaveTime, largest_number, log_of}
+use Rattle.recorder_with_cards.specs.Ends.{EndsTrace, MayRecord}
 use Rattle.recorder_with_cards.specs.Writes.{WritesIn, unit_writes, card_writes}
 use Rattle.tacho.specs.declared.anew.AnewFault.{AnewFault}
 use Rattle.tacho.specs.declared.anew.AnewFault.TheVariants.{Unmade, Kept}
-
--- the image of a new unit of this identity
-abbrev pub unit_image : Identity → List ℕ
-unit_image vehicle = new_image vehicle.vin vehicle.registration.0 vehicle.limit
+use Rattle.tacho.specs.Formatting.{issue_most}
 
 -- a device once so many writes were begun
 abbrev pub at_clock : ℕ → State → State
@@ -38,6 +36,21 @@ pub record MayBeAnew (card_b : List ℕ) (old : Devices) : Type 0 where
   pub card_tells : is_some old.card_a.image ≡ true
   pub of_b : BeginsAs card_b old.card_b
 
+-- so a run of these items begins: card b started with this image alone, the other two told one, and no clock has come
+-- to its end
+pub record BeginsAnew (card_b : List ℕ) (items : List Item) (old now : Devices) : Type 0 where
+  pub may : MayBeAnew card_b old
+  pub time : HaveTime now
+  pub few : length items ≤ largest_number
+
+-- unit and card a can be made new, the card of this image, and card b has a card's size
+pub record MayBeMade (card : List ℕ) (old : Devices) : Type 0 where
+  pub unit : IsUnit old.unit
+  pub image : length card ≡ LARGEST_IMAGE
+  pub size_a : old.card_a.size ≡ LARGEST_IMAGE
+  pub behind_a : old.card_a.behind ≡ 0
+  pub size_b : LARGEST_IMAGE ≤ old.card_b.size
+
 -- THE TRACE WAS RECORDED on a new unit, a new card a, and card b, with these images: once those were made, at these
 -- clocks, all is recorded that a run promises, and so many writes began at most: to make them, and then by the
 -- power-ons of the run, the turns of the trace and its actions.
@@ -49,17 +62,23 @@ pub record EndsAnew (unit card_a card_b : List ℕ) (start : ℕ) (items : List 
   pub card_later : old.card_a.clock ≤ card_clock
   pub unit_before : unit_clock ≤ now.unit.clock
   pub card_before : card_clock ≤ now.card_a.clock
-  pub unit_made : unit_clock ≤ old.unit.clock + 10324
-  pub card_made : card_clock ≤ old.card_a.clock + 101
+  pub unit_made : unit_clock ≤ old.unit.clock + format_most
+  pub card_made : card_clock ≤ old.card_a.clock + issue_most
   pub ends : EndsTrace unit card_a card_b start items out (began_at unit_clock card_clock old) now
   pub writes : WritesIn start items (length (cuts true (log_of out))) (began_at unit_clock card_clock old) now
 
 -- SO MANY WRITES BEGIN AT MOST, whatever fails: to make unit and card a new, and by the power-ons of a run, of which
 -- the log tells so many cuts that a failed call made, by the turns of its trace and by its actions.
 pub record WritesAnew (start : ℕ) (items : List Item) (failed : ℕ) (old now : Devices) : Type 0 where
-  pub unit : now.unit.clock ≤ old.unit.clock + (10324 + unit_writes start items failed)
-  pub card_a : now.card_a.clock ≤ old.card_a.clock + (101 + card_writes start items failed)
+  pub unit : now.unit.clock ≤ old.unit.clock + (format_most + unit_writes start items failed)
+  pub card_a : now.card_a.clock ≤ old.card_a.clock + (issue_most + card_writes start items failed)
   pub card_b : now.card_b.clock ≤ old.card_b.clock + card_writes start items failed
+
+-- WHATEVER FAILS: so many writes begin at most, the unit keeps its size, and no count of its faults falls
+pub record GoesAnew (start : ℕ) (items : List Item) (failed : ℕ) (old now : Devices) : Type 0 where
+  pub most : WritesAnew start items failed old now
+  pub unit : IsUnit now.unit
+  pub faults : old.unit.faults ≤ now.unit.faults
 
 -- a device that is told to have failed has failed
 abbrev pub IsFailed : AnewFault → (old now : Devices) → Type 0
@@ -76,3 +95,11 @@ IsFailure (Kept (MediumFault device)) = Unit {0}
 IsFailure (Kept (BadUnit place)) = ⊥
 IsFailure (Kept (ClockBack kept second)) = ⊥
 IsFailure (Kept (SameCard number)) = ⊥
+
+-- THE TRACE WAS NOT RECORDED: nothing is put down, and card b is as it was; and where a run may begin with these
+-- images, a device failed
+pub record IsKeptAnew (unit card_a card_b : List ℕ) (start : ℕ) (before after : Outcome) (old_b now_b : State)
+    (fault : AnewFault) : Type 0 where
+  pub nothing : after ≡ before
+  pub same_b : IsAsItWas old_b now_b
+  pub failure : MayRecord unit card_a card_b start → IsFailure fault

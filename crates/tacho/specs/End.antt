@@ -10,6 +10,7 @@ use Rattle.tacho.specs.declared.end.Ended.{Ended}
 use Rattle.run_outcome.specs.declared.outcome.Outcome.{Outcome}
 use Rattle.unit_download.specs.declared.wire.Passed.{Passed}
 
+-- the status with which the program ends by a fault: 0 where all was done
 abbrev pub status_of : Fault → ℕ
 status_of Done = 0
 status_of Usage = 2
@@ -66,6 +67,7 @@ IsBeforeDevices ReadFault = Unit {0}
 IsBeforeDevices Memory = Unit {0}
 IsBeforeDevices _ = ⊥
 
+-- a device failed
 abbrev pub is_medium_fault : Fault → Bool
 is_medium_fault (MediumFault device) = true
 is_medium_fault _ = false

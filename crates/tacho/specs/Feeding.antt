@@ -16,6 +16,7 @@ fed_item span (Act (Tear slot)) = span
 fed_item span (Act (Place slot ending country region)) = span
 fed_item span (Act (Manual slot pick minute)) = span
 
+-- items one after another
 abbrev pub fed_items : Span → List Item → Span
 fed_items span [] = span
 fed_items span (item ∷ items) = fed_items (fed_item span item) items

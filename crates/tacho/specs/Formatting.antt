@@ -11,7 +11,7 @@ use Rattle.card_files.specs.declared.new_card.CardIdentity.{CardIdentity}
 use Rattle.card_files.specs.NewCard.{new_card}
 use Rattle.unit_model.specs.NewImage.{new_image}
 use Rattle.unit_memory.specs.declared.format.Identity.{Identity}
-use Rattle.unit_memory.specs.Formats.{IsFormatting}
+use Rattle.unit_memory.specs.Formats.{IsFormatting, format_most}
 use Rattle.tacho.specs.declared.end.Fault.{Fault}
 use Rattle.tacho.specs.declared.end.Fault.TheVariants.{Done, WriteFault, MediumFault, Memory}
 use Rattle.card_layout.specs.declared.files.TheConstants.{LARGEST, LARGEST_IMAGE}
@@ -22,6 +22,10 @@ use Rattle.tacho.specs.Outside.{SinkTold, CardTold}
 pub record IsCard (s : State) : Type 0 where
   pub sized : s.size ≡ LARGEST_IMAGE
   pub behind : s.behind ≡ 0
+
+-- so many writes issue a card of the largest sizes, at most
+abbrev pub issue_most : ℕ
+issue_most = 101
 
 -- what is printed of a device that was made new
 abbrev pub formatted_line : List ℕ
@@ -76,11 +80,11 @@ pub record EndsIssue (device : Device) (identity : CardIdentity) (old new : Card
       after fault
   pub state : (fault ≡ Memory → ⊥) → new.state ≡ just_issued
   -- so many writes begin at most, whatever fails
-  pub writes : new.memory.clock ≤ old.memory.clock + 101
+  pub writes : new.memory.clock ≤ old.memory.clock + issue_most
 
 -- How `format unit` ends: the unit is made new, of an identity. It takes no memory.
 pub record EndsMaking (identity : Identity) (old new : State) (before after : SinkTold) (fault : Fault) : Type 0 where
   pub made : EndsFormat OfUnit (unit_image identity) (IsFormatting (unit_image identity)) old new before after fault
   pub no_memory : fault ≡ Memory → ⊥
   -- so many writes begin at most, whatever fails
-  pub writes : new.clock ≤ old.clock + 10324
+  pub writes : new.clock ≤ old.clock + format_most

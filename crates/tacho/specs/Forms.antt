@@ -18,8 +18,9 @@ use Rattle.tacho.specs.declared.forms.TheConstants.{LAST_LEAST, LAST_MOST, SPEED
 use Rattle.tacho_types.specs.Texts.{padded_text}
 use Rattle.tacho.specs.Texts.{word_in, number_in}
 
--- steps each of which may tell nothing
 infixl 10 ◌>>=◌
+
+-- a step behind another: it tells nothing where one of them tells nothing
 abbrev pub ◌>>=◌ : {A B : Type 0} → Option A → (A → Option B) → Option B
 None >>= rest = None
 (Some x) >>= rest = rest x
@@ -63,6 +64,7 @@ reading_of word =
     else (if bytes_eq word (codes "speeds") then Some (Speeds None)
     else (if bytes_eq word (codes "show") then Some (Show None) else None)))))
 
+-- the form of one such word
 abbrev pub read_form : List ℕ → Option Form
 read_form word = do
   reading ← reading_of word
@@ -119,6 +121,7 @@ card_form letter state number surname first = do
   identity ← card_in state number surname first
   Some (FormatCard card identity)
 
+-- what is made new, the unit or a card, and of which identity
 abbrev pub format_of : (what first second third fourth : List ℕ) → Option Form
 format_of what first second third fourth =
     if bytes_eq what (codes "unit") then unit_form first second third fourth
@@ -147,6 +150,7 @@ noisy_form seed = do
   seed ← number_in 0 SEED_MOST seed
   Some (DownloadNoisy seed)
 
+-- `noisy` and what follows it
 abbrev pub noisy_of : (which seed : List ℕ) → Option Form
 noisy_of which seed = if bytes_eq which (codes "noisy") then noisy_form seed else None
 

@@ -47,6 +47,7 @@ pub record Handed (S K U C : Type 0) : Type 0 where
   pub card_a : C
   pub card_b : C
 
+-- these five values, handed to a call
 abbrev pub handed : {S K U C : Type 0} → S → K → U → C → C → Handed S K U C
 handed source sink unit card_a card_b = record {
   source = source;
@@ -66,6 +67,7 @@ pub record Tells (S K U C : Type 0) : Type 1 where
   pub card_memory : C → State
   pub card_state : C → CardState
 
+-- these seven ways to tell, by the kinds of what a call is handed
 abbrev pub tells : {S K U C : Type 0} → (S → Option (List ℕ)) → (S → ℕ) → (K → Option (List ℕ)) → (K → ℕ) → (U → State)
     → (C → State) → (C → CardState) → Tells S K U C
 tells left read_faults held write_faults unit_memory card_memory card_state = record {
@@ -78,7 +80,7 @@ tells left read_faults held write_faults unit_memory card_memory card_state = re
   card_state = card_state;
 }
 
--- and so all of what a call is handed
+-- what all that a call is handed tells
 abbrev pub told_by : {S K U C : Type 0} → Tells S K U C → Handed S K U C → Outside
 told_by t h = outside t.left t.read_faults t.held t.write_faults t.unit_memory t.card_memory t.card_state h.source
     h.sink h.unit h.card_a h.card_b

@@ -5,12 +5,21 @@ use Rattle.tach_media.specs.Medium.{Rose}
 use Rattle.tach_media.specs.Streams.{AppendsFront}
 use Rattle.trace_model.specs.declared.Item.{Item}
 use Rattle.trace_text.specs.declared.lines_trace.Form.{Form}
-use Rattle.trace_text.specs.Judged.{IsTraceText, IsBadText, IsLongText}
+use Rattle.trace_text.specs.Judged.{IsTraceText, IsBadText, IsLongText, most_bytes}
 use Rattle.tacho.specs.declared.end.Fault.{Fault}
 use Rattle.tacho.specs.declared.end.Fault.TheVariants.{BadTrace, TooLong, ReadFault, WriteFault, BadFile}
 use Rattle.tacho.specs.End.{IsUnread, IsUnprinted}
-use Rattle.tacho.specs.Read.{IsBad, most_bytes}
+use Rattle.tacho.specs.Read.{IsBad}
+use Rattle.tacho.specs.Outside.{SinkTold}
 use Rattle.tacho.specs.declared.forms.Reading.{Reading}
+
+-- A TEXT IS PUT INTO THE SINK, all of it, or a front where the sink failed, which is then told as a write fault. No
+-- count falls.
+pub record PutsText (text : List ℕ) (before after : SinkTold) (result : Result (Unit {0}) Fault) : Type 0 where
+  pub ok : OnOk result (Appends before.held after.held text)
+  pub err : IfErr result (λ fault. (fault ≡ WriteFault) × AppendsFront before.held after.held text)
+  pub cause : IfErr result (λ fault. Rose before.faults after.faults)
+  pub counts : before.faults ≤ after.faults
 
 -- WHAT THE SINK GETS: where it did not fail all that is printed for the bytes that the source told, and a front of that
 -- where the sink failed

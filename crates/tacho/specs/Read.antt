@@ -3,6 +3,7 @@ use Rattle.std.specs.Prelude.{◌≡◌, ◌⊎◌, ◌<◌, ◌≤◌, ℕ, Opt
 use Rattle.std.specs.Io.KnownBytes.{Appends, IsAtEnd, Keeps}
 use Rattle.tach_media.specs.Medium.{Rose}
 use Rattle.tach_media.specs.Streams.{AppendsFront}
+use Rattle.trace_text.specs.Judged.{most_bytes}
 use Rattle.card_match.specs.Files.{IsBadSource}
 use Rattle.file_view.specs.UnitFiles.{IsBadUnitFile}
 use Rattle.unit_speeds.specs.Text.{PrintsSpeeds}
@@ -14,10 +15,6 @@ use Rattle.tacho.specs.Outside.{Outside}
 use Rattle.tacho.specs.View.{PrintsFile, IsBadFile, PrintsByHand, IsNoCardFile}
 use Rattle.tacho.specs.Match.{PrintsMatch, PrintsDifferences}
 use Rattle.tacho.specs.Reports.{PrintsTotals, PrintsChart, PrintsJson}
-
--- a source has at most so many bytes
-abbrev pub most_bytes : ℕ
-most_bytes = 16777216
 
 -- what is printed of a source of these bytes
 abbrev pub Prints : Reading → (bytes out : List ℕ) → Type 0

@@ -8,6 +8,7 @@ use Rattle.std.specs.Str.Parse.{digits_value}
 abbrev pub is_character : ℕ → Bool
 is_character c = nat_le 0x21 c && nat_le c 0x7E
 
+-- the first character of a word is `-`
 abbrev pub begins_with_dash : List ℕ → Bool
 begins_with_dash [] = false
 begins_with_dash (c ∷ text) = c == 45

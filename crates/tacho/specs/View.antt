@@ -3,6 +3,7 @@ use Rattle.std.specs.Prelude.{◌≡◌, ℕ, Bool, false, ◌==◌, MatchBool, 
 use Rattle.activity_codec.specs.declared.entries.Entry.{Entry}
 use Rattle.activity_codec.specs.declared.entries.Manual.{Manual}
 use Rattle.unit_model.specs.Days.{UnitMinute}
+use Rattle.link_model.specs.declared.services.TheConstants.{MESSAGE}
 use Rattle.view_text.specs.Text.{IsUnitView, IsCardView}
 use Rattle.view_text.specs.Entries.{entry_shown}
 use Rattle.view_text.specs.ByHand.{IsByHandView}
@@ -20,7 +21,7 @@ use Rattle.tacho.specs.declared.end.Fault.TheVariants.{Memory, BadFile}
 -- a file whose first byte is 76 is read as a unit file, any other as a card file
 abbrev pub is_unit_file : List ℕ → Bool
 is_unit_file [] = false
-is_unit_file (b ∷ bytes) = b == 0x76
+is_unit_file (b ∷ bytes) = b == MESSAGE
 
 -- the view text of the minutes of a unit file, of all days or of the last so many messages of days
 pub record PrintsUnit (last : Option ℕ) (bytes out : List ℕ) : Type 0 where

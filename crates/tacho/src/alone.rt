@@ -1,17 +1,14 @@
 //! A trace without a card's line is recorded on the unit alone.
-ghost use Rattle.std.specs.Prelude.{◌≡◌, ◌+◌, ◌/◌, ◌≤◌, ◌<◌, ℕ, List, true, false, length, OnOk};
+ghost use Rattle.std.specs.Prelude.{◌≡◌, ◌/◌, ◌≤◌, ◌<◌, ℕ, List, true, false, length, OnOk};
 ghost use Rattle.tach_media.specs.Medium.{last_count};
 ghost use Rattle.log_model.specs.Causes.{HasCauses, cuts};
 ghost use Rattle.trace_model.specs.Trace.{seconds_of};
-ghost use Rattle.trace_text.specs.Trace.{IsWellFormed};
 ghost use Rattle.history_model.specs.Presence.{Start};
 ghost use Rattle.unit_model.specs.Decoding.{Decodes};
-ghost use Rattle.unit_model.specs.Image.{IsUnit, last_kept};
-ghost use Rattle.run_outcome.specs.Room.{IsReserved};
+ghost use Rattle.unit_model.specs.Image.{last_kept};
 ghost use Rattle.recorder_with_cards.specs.Words.{log_of, largest_number};
-ghost use Rattle.recorder_with_cards.specs.Writes.{unit_writes};
 ghost use Rattle.tacho.specs.Alone.{needs_no_card, IsForUnit, NoVerdict, counts, StartsAs, IsAlone};
-ghost use Rattle.tacho.specs.Alone.{TellsRefusal, TellsUnitBreakdowns};
+ghost use Rattle.tacho.specs.Alone.{MayBeAlone, GoesAlone, TellsRefusal, TellsUnitBreakdowns};
 
 use crate::blank::no_card;
 use recorder_with_cards::{RunFault, run_trace};
@@ -54,10 +51,7 @@ pub fn record_alone<U: Medium>(
     unit: &mut U,
     outcome: &mut Outcome,
 ) -> Result<(), RunFault>
-    requires well { IsWellFormed trace.now.start trace.now.items }
-    requires for_unit { IsForUnit trace.now.items }
-    requires reserved { IsReserved trace.now.items outcome.old }
-    requires unit { IsUnit (U.state unit.old) }
+    requires { MayBeAlone trace.now outcome.old (U.state unit.old) }
     // The crash-safety theorem of the unit, with its auxiliary records.
     ensures recorded { (cards : Start) (x : List ℕ) → StartsAs x (U.state unit.old)
         → (U.state unit.new).clock < last_count → length trace.now.items ≤ largest_number
@@ -70,8 +64,8 @@ pub fn record_alone<U: Medium>(
         → OnOk result (HasCauses NoVerdict (counts (U.state unit.old).breakdowns a b)
         (counts (U.state unit.new).breakdowns a b) (seconds_of trace.now.start trace.now.items) (log_of outcome.new)) }
     // So many writes it begins at most, by its power-ons, the turns of the trace and its actions.
-    ensures most { (U.state unit.new).clock ≤ (U.state unit.old).clock
-        + unit_writes trace.now.start trace.now.items (length (cuts true (log_of outcome.new))) }
+    ensures goes { GoesAlone trace.now.start trace.now.items (length (cuts true (log_of outcome.new)))
+        (U.state unit.old) (U.state unit.new) }
     // Each cut that a failed call made is a breakdown of the unit more; and where none has cut the power of a run that
     // is recorded, it has not broken down, nor where no call on it failed. Nor has it more often than those cuts. No
     // clock and no count of it falls.
@@ -82,7 +76,6 @@ pub fn record_alone<U: Medium>(
         → OnOk result (Decodes x × (last_kept x < trace.now.start / 60)) }
     ensures refusal { TellsRefusal result trace.now.start trace.now.items outcome.old outcome.new (U.state unit.old)
         (U.state unit.new) }
-    ensures unit { IsUnit (U.state unit.new) }
 {
     let mut card_a = no_card();
     let mut card_b = no_card();

@@ -1,19 +1,18 @@
 //! The command `demo`: a unit and a card are made new, a demonstration is recorded on them, and the unit is downloaded.
-ghost use Rattle.std.specs.Prelude.{◌≡◌, ◌≤◌, OnOk, IfErr};
-ghost use Rattle.std.specs.Io.KnownBytes.{Appends};
-ghost use Rattle.tach_media.specs.Medium.{Rose};
-ghost use Rattle.tach_media.specs.Streams.{AppendsFront};
+ghost use Rattle.std.specs.Prelude.{◌≡◌};
 ghost use Rattle.unit_model.specs.Image.{IsUnit};
 ghost use Rattle.tacho.specs.End.{end_of};
 ghost use Rattle.tacho.specs.Outside.{outside};
 ghost use Rattle.tacho.specs.Program.{HasCauses};
 ghost use Rattle.tacho.specs.Formatting.{IsCard};
 ghost use Rattle.tacho.specs.Outcomes.{IsEmpty};
+ghost use Rattle.tacho.specs.Printing.{PutsText};
 ghost use Rattle.tacho.specs.Demo.{demo_text as text_of_demo, refusal_anew, refusal_of_file, EndsDemo};
 
-use crate::anew::{AnewFault, run_anew};
+use crate::anew::{AnewFault, NewDevices, run_anew};
 use crate::end::Fault;
 use crate::outcome_text::demo_text;
+use crate::printing::print_text;
 use crate::record_command::refusal_of_run;
 use card_files::{CardIdentity, blank_card};
 use card_layout::LARGEST;
@@ -21,7 +20,7 @@ use link_loader::Downloader;
 use run_model::Device;
 use run_outcome::Outcome;
 use std::alloc::Global;
-use tach_media::{Chip, Medium, MemSink, Sink, Source, put_all};
+use tach_media::{Chip, Medium, MemSink, Sink, Source};
 use tacho_types::{Name36, Nation, Registration};
 use trace_text::demo_trace;
 use unit_download::{DownloadFault, FileSize, measure};
@@ -53,6 +52,13 @@ pub const ROOM: usize = 300000;
 
 /// The command `demo`, by the number that the demonstration is drawn from. The outcome is what was recorded; it stays
 /// as it was where nothing is. All memory is taken before the first write.
+///
+/// # Errors
+///
+/// `Memory` before a device is used, or where the room for the unit's file is too small. `MediumFault` where a device
+/// failed as it was made new, in the opening of the run or in the download; `BadUnit`, `ClockBack` and `SameCard` as
+/// `run_trace` tells; `Changed` where the download refuses the unit's answer. `WriteFault` where the sink failed, and
+/// all else is done.
 pub fn demo<S: Source, K: Sink, U: Medium, C: Chip>(
     alloc: Global,
     seed: u32,
@@ -79,33 +85,19 @@ pub fn demo<S: Source, K: Sink, U: Medium, C: Chip>(
         (outside S.left S.faults K.held K.faults U.state C.state C.card source.new sink.new unit.new card_a.new
         card_b.new) (end_of result) }
 {
-    let Ok(trace) = demo_trace(alloc, seed) else {
-        return Err(Fault::Memory);
-    };
-    let Ok(reserved) = Outcome::reserve(alloc, &trace) else {
-        return Err(Fault::Memory);
-    };
-    let Ok(image) = blank_card(alloc, &CARD, &LARGEST) else {
-        return Err(Fault::Memory);
-    };
+    let trace = demo_trace(alloc, seed)?;
+    let reserved = Outcome::reserve(alloc, &trace)?;
+    let image = blank_card(alloc, &CARD, &LARGEST)?;
     let mut loader = Downloader::new(alloc);
-    if loader.reserve().is_err() {
-        return Err(Fault::Memory);
-    }
-    let Ok(room) = Vec::with_capacity(alloc, ROOM) else {
-        return Err(Fault::Memory);
-    };
+    loader.reserve()?;
+    let room = Vec::with_capacity(alloc, ROOM)?;
     let mut file = MemSink::new(room, Vec::new(alloc));
     *outcome = reserved;
-    if let Err(fault) = run_anew(
-        &trace,
-        &VEHICLE,
-        image.as_slice(),
-        unit,
-        card_a,
-        card_b,
-        outcome,
-    ) {
+    let made = NewDevices {
+        vehicle: VEHICLE,
+        image: image.as_slice(),
+    };
+    if let Err(fault) = run_anew(&trace, made, unit, card_a, card_b, outcome) {
         return Err(refusal_anew(fault));
     }
     let size = match measure(&mut loader, &mut file, unit) {
@@ -140,14 +132,8 @@ fn refusal_of_file(fault: DownloadFault) -> Fault
 
 /// Prints the seven lines.
 fn print_demo<K: Sink>(outcome: &Outcome, size: FileSize, sink: &mut K) -> Result<(), Fault>
-    ensures ok { OnOk result (Appends (K.held sink.old) (K.held sink.new) (text_of_demo outcome.now size)) }
-    ensures err { IfErr result (λ fault. (fault ≡ Fault.WriteFault)
-        × AppendsFront (K.held sink.old) (K.held sink.new) (text_of_demo outcome.now size)) }
-    ensures cause { IfErr result (λ fault. Rose (K.faults sink.old) (K.faults sink.new)) }
-    ensures counts { K.faults sink.old ≤ K.faults sink.new }
+    ensures { PutsText (text_of_demo outcome.now size) (record { held = K.held sink.old; faults = K.faults sink.old })
+        (record { held = K.held sink.new; faults = K.faults sink.new }) result }
 {
-    if put_all(sink, demo_text(outcome, size).as_slice()).is_err() {
-        return Err(Fault::WriteFault);
-    }
-    Ok(())
+    print_text(demo_text(outcome, size).as_slice(), sink)
 }

@@ -1,7 +1,8 @@
 //! How the top call ends.
 use run_model::Device;
 use run_outcome::Outcome;
-use std::alloc::Global;
+use std::alloc::{AllocError, Global};
+use tach_media::Memory;
 use tacho_types::FullCardNumber;
 use unit_download::Wire;
 
@@ -12,9 +13,12 @@ pub enum Fault {
     Done,
     /// The words are no form that is known.
     Usage,
-    /// This line of the trace, from 1, is the first outside the grammar.
+    /// This line, from 1, is the first outside the grammar of a trace, or of `serve --hex` the first that spells no
+    /// bytes.
     BadTrace(u32),
-    /// At this line of the trace, from 1, a limit is passed first; 0 where the source has more than 16777216 bytes.
+    /// At this line of the trace, from 1, a limit is passed first. 0 tells of no line: the source has more than
+    /// 16777216 bytes, or of `serve packets` and `download packets` a datagram has more than 264, or 4294967295 reads
+    /// were made.
     TooLong(u32),
     /// The unit's image does not decode: the place of the first field, in order of places, that fails.
     BadUnit(u32),
@@ -27,8 +31,8 @@ pub enum Fault {
     ReadFault,
     /// The sink failed.
     WriteFault,
-    /// The source is no file that `view` reads: the place of the first message or entry that is not in its grammar, or
-    /// the file's length where a needed entry is missing.
+    /// The source is no file that the form reads: the place of the first message or entry that is not in its grammar,
+    /// or the file's length where a needed entry is missing; 0 where `view manual` is given a unit file.
     BadFile(u32),
     /// The card's Application_Identification is bad: the number, from 1, of the first field that is out of its range.
     BadCard(u8),
@@ -44,6 +48,28 @@ pub enum Fault {
     LinkEnded,
 }
 
+impl From<AllocError> for Fault {
+    ghost use Rattle.std.specs.Prelude.{◌≡◌};
+    ghost use Rattle.tacho.specs.declared.end.Fault.{Fault};
+
+    ghost from_gives = { λ _ fault. fault ≡ Fault.Memory };
+
+    fn from(_error: AllocError) -> Fault {
+        Fault::Memory
+    }
+}
+
+impl From<Memory> for Fault {
+    ghost use Rattle.std.specs.Prelude.{◌≡◌};
+    ghost use Rattle.tacho.specs.declared.end.Fault.{Fault};
+
+    ghost from_gives = { λ _ fault. fault ≡ Fault.Memory };
+
+    fn from(_memory: Memory) -> Fault {
+        Fault::Memory
+    }
+}
+
 /// How the call ended.
 #[derive(Drop)]
 pub struct Ended {
@@ -51,7 +77,7 @@ pub struct Ended {
     pub status: u8,
     /// Why it ended.
     pub fault: Fault,
-    /// What `record` recorded; no line where another form was asked for.
+    /// What `record` or `demo` recorded; no line where another form was asked for.
     pub outcome: Outcome,
     /// The frames that passed in a `download`, in their order; none where another form was asked for.
     pub wire: Wire,
@@ -59,7 +85,9 @@ pub struct Ended {
 
 impl Ended {
     ghost use Rattle.std.specs.Prelude.{◌≡◌};
+    ghost use Rattle.run_outcome.specs.declared.outcome.Outcome.{Outcome as OfRun};
     ghost use Rattle.tacho.specs.End.{ended_by, ended_with, end_of};
+    ghost use Rattle.tacho.specs.Outcomes.{IsEmpty};
 
     /// The end by this fault, with this outcome and these frames.
     pub fn with(outcome: Outcome, wire: Wire, fault: Fault) -> Self
@@ -106,5 +134,26 @@ impl Ended {
             Ok(()) => Ended::of(alloc, outcome, Fault::Done),
             Err(fault) => Ended::of(alloc, outcome, fault),
         }
+    }
+
+    /// The end by this fault of a command that records nothing.
+    pub fn by_fault(alloc: Global, fault: Fault) -> Self
+        ensures { (outcome : OfRun) × IsEmpty outcome × (result ≡ ended_by outcome fault) }
+    {
+        Ended::of(alloc, Outcome::empty(alloc), fault)
+    }
+
+    /// The end by what a command answers that records nothing.
+    pub fn by_answer(alloc: Global, done: Result<(), Fault>) -> Self
+        ensures { (outcome : OfRun) × IsEmpty outcome × (result ≡ ended_by outcome (end_of done)) }
+    {
+        Ended::after(alloc, Outcome::empty(alloc), done)
+    }
+
+    /// The end by this fault of a download, behind the frames that passed.
+    pub fn by_wire(alloc: Global, wire: Wire, fault: Fault) -> Self
+        ensures { (outcome : OfRun) × IsEmpty outcome × (result ≡ ended_with outcome wire fault) }
+    {
+        Ended::with(Outcome::empty(alloc), wire, fault)
     }
 }

@@ -1,24 +1,29 @@
 //! The commands `format a`, `format b` and `format unit`: a device is made new.
-ghost use Rattle.std.specs.Prelude.{◌≡◌, ◌≢◌, ◌≤◌, ◌+◌, Err, OnOk, IfErr};
-ghost use Rattle.std.specs.Io.KnownBytes.{Appends};
-ghost use Rattle.tach_media.specs.Medium.{Rose};
-ghost use Rattle.tach_media.specs.Streams.{AppendsFront};
+ghost use Rattle.std.specs.Prelude.{◌≡◌, ◌≢◌, ◌≤◌, ◌+◌, Err, IfErr};
 ghost use Rattle.card_layout.specs.Outcomes.{just_issued};
 ghost use Rattle.run_model.specs.declared.Device.TheVariants.{Unit as OfUnit};
 ghost use Rattle.unit_model.specs.Image.{IsUnit};
-ghost use Rattle.unit_memory.specs.Formats.{IsFormatting};
+ghost use Rattle.unit_memory.specs.Formats.{IsFormatting, format_most};
 ghost use Rattle.tacho.specs.End.{end_of};
 ghost use Rattle.tacho.specs.Formatting.{EndsFormat, IsCard, IsIssuing, formatted_line, card_image, unit_image};
+ghost use Rattle.tacho.specs.Formatting.{issue_most};
+ghost use Rattle.tacho.specs.Printing.{PutsText};
 
 use crate::end::Fault;
+use crate::printing::print_text;
 use card_files::{CardIdentity, blank_card};
 use card_layout::LARGEST;
 use run_model::Device;
 use std::alloc::Global;
-use tach_media::{Chip, Medium, Sink, put_all};
+use tach_media::{Chip, Medium, Sink};
 use unit_memory::{Identity, format_unit};
 
 /// The commands `format a` and `format b`: a card of the largest sizes is issued to an identity.
+///
+/// # Errors
+///
+/// `Memory` before the card is used; `MediumFault` of this device where it failed, and nothing is printed; `WriteFault`
+/// where the sink failed, and the card is new.
 pub fn format_card<K: Sink, C: Chip>(
     alloc: Global,
     identity: &CardIdentity,
@@ -33,13 +38,11 @@ pub fn format_card<K: Sink, C: Chip>(
         (record { held = K.held sink.new; faults = K.faults sink.new }) (end_of result) }
     ensures state { result ≢ Err Fault.Memory → C.card card.new ≡ just_issued }
     ensures memory { result ≡ Err Fault.Memory → card.new ≡ card.old }
-    ensures writes { (C.state card.new).clock ≤ (C.state card.old).clock + 101 }
+    ensures writes { (C.state card.new).clock ≤ (C.state card.old).clock + issue_most }
     ensures nothing { IfErr result (λ fault. fault ≢ Fault.WriteFault → sink.new ≡ sink.old) }
     ensures counts { K.faults sink.old ≤ K.faults sink.new }
 {
-    let Ok(image) = blank_card(alloc, identity, &LARGEST) else {
-        return Err(Fault::Memory);
-    };
+    let image = blank_card(alloc, identity, &LARGEST)?;
     if card.issue(image.as_slice()).is_err() {
         return Err(Fault::MediumFault(device));
     }
@@ -47,6 +50,11 @@ pub fn format_card<K: Sink, C: Chip>(
 }
 
 /// The command `format unit`: a new unit is made of an identity.
+///
+/// # Errors
+///
+/// `MediumFault` of the unit where it failed, and nothing is printed; `WriteFault` where the sink failed, and the unit
+/// is new.
 pub fn make_unit<K: Sink, U: Medium>(
     identity: &Identity,
     unit: &mut U,
@@ -58,7 +66,7 @@ pub fn make_unit<K: Sink, U: Medium>(
         (record { held = K.held sink.old; faults = K.faults sink.old })
         (record { held = K.held sink.new; faults = K.faults sink.new }) (end_of result) }
     ensures some { end_of result ≢ Fault.Memory }
-    ensures writes { (U.state unit.new).clock ≤ (U.state unit.old).clock + 10324 }
+    ensures writes { (U.state unit.new).clock ≤ (U.state unit.old).clock + format_most }
     ensures nothing { IfErr result (λ fault. fault ≢ Fault.WriteFault → sink.new ≡ sink.old) }
     ensures counts { K.faults sink.old ≤ K.faults sink.new }
 {
@@ -70,14 +78,8 @@ pub fn make_unit<K: Sink, U: Medium>(
 
 /// Prints that a device was made new.
 fn print_formatted<K: Sink>(sink: &mut K) -> Result<(), Fault>
-    ensures ok { OnOk result (Appends (K.held sink.old) (K.held sink.new) formatted_line) }
-    ensures err { IfErr result (λ fault. (fault ≡ Fault.WriteFault)
-        × AppendsFront (K.held sink.old) (K.held sink.new) formatted_line) }
-    ensures cause { IfErr result (λ fault. Rose (K.faults sink.old) (K.faults sink.new)) }
-    ensures counts { K.faults sink.old ≤ K.faults sink.new }
+    ensures { PutsText formatted_line (record { held = K.held sink.old; faults = K.faults sink.old })
+        (record { held = K.held sink.new; faults = K.faults sink.new }) result }
 {
-    if put_all(sink, b"formatted\n").is_err() {
-        return Err(Fault::WriteFault);
-    }
-    Ok(())
+    print_text(b"formatted\n", sink)
 }

@@ -10,10 +10,12 @@ ghost use Rattle.tacho.specs.Forms.{form_of_three, format_of, form_of_six, form_
 use crate::words::Words;
 use card_files::CardIdentity;
 use minute_rules::Rule;
+use speed_model::BLOCK_SLOTS;
 use tacho_types::{Name36, Nation, Registration, write_padded};
 use text_fields::number_between;
 use trace_model::Card;
 use unit_memory::Identity;
+use unit_model::layout::DAY_SLOTS;
 
 /// How many characters a card's number has.
 pub const CARD_NUMBER: usize = 16;
@@ -27,7 +29,7 @@ pub const PLATE: usize = 13;
 /// How many characters a vehicle's identification number has.
 pub const VIN: usize = 17;
 
-/// The greatest number of a nation.
+/// The greatest number of a nation: a NationNumeric is one byte (Annex IB, Appendix 1).
 pub const NATION_MOST: u8 = 255;
 
 /// The least speed limit in km/h.
@@ -40,10 +42,10 @@ pub const LIMIT_MOST: u8 = 254;
 pub const LAST_LEAST: u32 = 1;
 
 /// The greatest number of days that `last N` takes: so many days a unit keeps.
-pub const LAST_MOST: u32 = 366;
+pub const LAST_MOST: u32 = DAY_SLOTS;
 
 /// The greatest number of minutes that `speeds last N` takes: so many minutes of detailed speed a unit keeps.
-pub const SPEEDS_MOST: u32 = 1440;
+pub const SPEEDS_MOST: u32 = BLOCK_SLOTS;
 
 /// The greatest number that a demonstration is drawn from.
 pub const SEED_MOST: u32 = 2147483647;
@@ -53,7 +55,7 @@ pub const SEED_MOST: u32 = 2147483647;
 pub enum Form {
     /// `minutes`: the decided minutes of a trace are printed; `minutes 2009`: those by the amended rule.
     Minutes { rule: Rule },
-    /// `record`: a trace is recorded on the unit.
+    /// `record`: a trace is recorded on the unit and the cards.
     Record,
     /// `format a N NUMBER SURNAME FIRST`, and `format b ..`: the card is issued to this identity.
     FormatCard { card: Card, identity: CardIdentity },
@@ -122,9 +124,7 @@ pub fn form_of(words: &Words) -> Option<Form>
     if let Some((command, which, count)) = words.three() {
         return form_of_three(command, which, count);
     }
-    let Some((command, what, first, second, third, fourth)) = words.six() else {
-        return None;
-    };
+    let (command, what, first, second, third, fourth) = words.six()?;
     form_of_six(command, what, first, second, third, fourth)
 }
 
@@ -158,9 +158,7 @@ fn form_of_one(word: &str) -> Option<Form>
     if is_text(word, "--version") {
         return Some(Form::Version);
     }
-    let Some(reading) = reading_of(word) else {
-        return None;
-    };
+    let reading = reading_of(word)?;
     Some(Form::Read { reading })
 }
 
@@ -230,9 +228,7 @@ fn form_of_two(command: &str, option: &str) -> Option<Form>
 fn file_of(which: &str) -> Option<Form>
     ensures { result ≡ file_of which.now }
 {
-    let Some(card) = Card::named(which.as_bytes()) else {
-        return None;
-    };
+    let card = Card::named(which.as_bytes())?;
     Some(Form::CardFile { card })
 }
 
@@ -240,9 +236,7 @@ fn file_of(which: &str) -> Option<Form>
 fn demo_of(seed: &str) -> Option<Form>
     ensures { result ≡ demo_of seed.now }
 {
-    let Some(seed) = number(seed, 0, SEED_MOST) else {
-        return None;
-    };
+    let seed = number(seed, 0, SEED_MOST)?;
     Some(Form::Demo { seed })
 }
 
@@ -264,9 +258,7 @@ fn noisy_of(which: &str, seed: &str) -> Option<Form>
     ensures { result ≡ noisy_of which.now seed.now }
 {
     if is_text(which, "noisy") {
-        let Some(seed) = number(seed, 0, SEED_MOST) else {
-            return None;
-        };
+        let seed = number(seed, 0, SEED_MOST)?;
         return Some(Form::DownloadNoisy { seed });
     }
     None
@@ -276,9 +268,7 @@ fn noisy_of(which: &str, seed: &str) -> Option<Form>
 fn last_form(command: &str, which: &str, count: &str) -> Option<Form>
     ensures { result ≡ last_form command.now which.now count.now }
 {
-    let Some(days) = last_in(which, count, LAST_MOST) else {
-        return None;
-    };
+    let days = last_in(which, count, LAST_MOST)?;
     days_form(command, days)
 }
 
@@ -286,9 +276,7 @@ fn last_form(command: &str, which: &str, count: &str) -> Option<Form>
 fn speeds_of(which: &str, count: &str) -> Option<Form>
     ensures { result ≡ speeds_of which.now count.now }
 {
-    let Some(minutes) = last_in(which, count, SPEEDS_MOST) else {
-        return None;
-    };
+    let minutes = last_in(which, count, SPEEDS_MOST)?;
     let last = Some(minutes);
     Some(Form::Read {
         reading: Reading::Speeds { last },
@@ -355,17 +343,11 @@ fn format_of(what: &str, first: &str, second: &str, third: &str, fourth: &str) -
     ensures { result ≡ format_of what.now first.now second.now third.now fourth.now }
 {
     if is_text(what, "unit") {
-        let Some(identity) = unit_identity(first, second, third, fourth) else {
-            return None;
-        };
+        let identity = unit_identity(first, second, third, fourth)?;
         return Some(Form::FormatUnit { identity });
     }
-    let Some(card) = Card::named(what.as_bytes()) else {
-        return None;
-    };
-    let Some(identity) = card_identity(first, second, third, fourth) else {
-        return None;
-    };
+    let card = Card::named(what.as_bytes())?;
+    let identity = card_identity(first, second, third, fourth)?;
     Some(Form::FormatCard { card, identity })
 }
 
@@ -380,18 +362,10 @@ fn is_text(word: &str, text: &str) -> bool
 fn card_identity(state: &str, number: &str, surname: &str, first: &str) -> Option<CardIdentity>
     ensures { result ≡ card_in state.now number.now surname.now first.now }
 {
-    let Some(state) = byte(state, 0, NATION_MOST) else {
-        return None;
-    };
-    let Some(number) = card_number(number) else {
-        return None;
-    };
-    let Some(surname) = name(surname) else {
-        return None;
-    };
-    let Some(first) = name(first) else {
-        return None;
-    };
+    let state = byte_between(state, 0, NATION_MOST)?;
+    let number = card_number(number)?;
+    let surname = name(surname)?;
+    let first = name(first)?;
     Some(CardIdentity {
         state: Nation(state),
         number,
@@ -404,15 +378,9 @@ fn card_identity(state: &str, number: &str, surname: &str, first: &str) -> Optio
 fn unit_identity(nation: &str, plate: &str, vin: &str, limit: &str) -> Option<Identity>
     ensures { result ≡ unit_in nation.now plate.now vin.now limit.now }
 {
-    let Some(registration) = registration(nation, plate) else {
-        return None;
-    };
-    let Some(vin) = vehicle_number(vin) else {
-        return None;
-    };
-    let Some(limit) = byte(limit, LIMIT_LEAST, LIMIT_MOST) else {
-        return None;
-    };
+    let registration = registration(nation, plate)?;
+    let vin = vehicle_number(vin)?;
+    let limit = byte_between(limit, LIMIT_LEAST, LIMIT_MOST)?;
     Some(Identity {
         vin,
         registration,
@@ -424,9 +392,7 @@ fn unit_identity(nation: &str, plate: &str, vin: &str, limit: &str) -> Option<Id
 fn registration(nation: &str, plate: &str) -> Option<Registration>
     ensures { result ≡ registration_in nation.now plate.now }
 {
-    let Some(nation) = byte(nation, 0, NATION_MOST) else {
-        return None;
-    };
+    let nation = byte_between(nation, 0, NATION_MOST)?;
     let text = plate.as_bytes();
     if !is_word(text, 1, PLATE) {
         return None;
@@ -448,14 +414,14 @@ fn write_registration(nation: u8, text: &[u8], out: &mut [u8])
 }
 
 /// The vehicle's number that a word tells.
-fn vehicle_number(word: &str) -> Option<[u8; 17]>
+fn vehicle_number(word: &str) -> Option<[u8; VIN]>
     ensures { result ≡ word_in VIN VIN word.now }
 {
     let text = word.as_bytes();
     if !is_word(text, VIN, VIN) {
         return None;
     }
-    let mut number = [0; 17];
+    let mut number = [0; VIN];
     number.copy_from_slice(text);
     Some(number)
 }
@@ -469,24 +435,21 @@ fn number(word: &str, least: u32, most: u32) -> Option<u32>
 }
 
 /// The same, of a byte.
-fn byte(word: &str, least: u8, most: u8) -> Option<u8>
+fn byte_between(word: &str, least: u8, most: u8) -> Option<u8>
     ensures { result ≡ number_in least most word.now }
 {
-    match number(word, least as u32, most as u32) {
-        Some(n) => Some(n as u8),
-        None => None,
-    }
+    Some(number(word, least as u32, most as u32)? as u8)
 }
 
 /// The card number that a word tells.
-fn card_number(word: &str) -> Option<[u8; 16]>
+fn card_number(word: &str) -> Option<[u8; CARD_NUMBER]>
     ensures { result ≡ word_in CARD_NUMBER CARD_NUMBER word.now }
 {
     let text = word.as_bytes();
     if !is_word(text, CARD_NUMBER, CARD_NUMBER) {
         return None;
     }
-    let mut number = [0; 16];
+    let mut number = [0; CARD_NUMBER];
     number.copy_from_slice(text);
     Some(number)
 }
@@ -511,12 +474,14 @@ fn is_word(text: &[u8], least: usize, most: usize) -> bool
     least <= text.len() && text.len() <= most && !begins_with_dash(text) && has_characters(text)
 }
 
+/// Whether each is a character of a word.
 fn has_characters(text: &[u8]) -> bool
     ensures { result ≡ list_all is_character text.now }
 {
     text.iter().all(|c| is_character(*c))
 }
 
+/// Whether the first is `-`.
 fn begins_with_dash(text: &[u8]) -> bool
     ensures { result ≡ begins_with_dash text.now }
 {
@@ -526,6 +491,7 @@ fn begins_with_dash(text: &[u8]) -> bool
     }
 }
 
+/// Whether it is a character of a word: 21 to 7E.
 fn is_character(c: u8) -> bool
     ensures { result ≡ is_character c }
 {

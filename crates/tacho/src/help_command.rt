@@ -4,7 +4,8 @@ ghost use Rattle.tacho.specs.End.{end_of};
 ghost use Rattle.tacho.specs.Help.{help_text, version_text, EndsText};
 
 use crate::end::Fault;
-use tach_media::{Sink, put_all};
+use crate::printing::print_text;
+use tach_media::Sink;
 
 /// What `help` prints: the forms, a line each, and one example.
 const HELP: &[u8] = b"\
@@ -47,6 +48,10 @@ rattle-kit-13f logic dac8208d650f15bf
 ";
 
 /// The form `help`.
+///
+/// # Errors
+///
+/// `WriteFault` where the sink failed: a front of the lines went to it.
 pub fn print_help<K: Sink>(sink: &mut K) -> Result<(), Fault>
     ensures ends { EndsText help_text (record { held = K.held sink.old; faults = K.faults sink.old })
         (record { held = K.held sink.new; faults = K.faults sink.new }) (end_of result) }
@@ -56,6 +61,10 @@ pub fn print_help<K: Sink>(sink: &mut K) -> Result<(), Fault>
 }
 
 /// The form `--version`.
+///
+/// # Errors
+///
+/// `WriteFault` where the sink failed: a front of the lines went to it.
 pub fn print_version<K: Sink>(sink: &mut K) -> Result<(), Fault>
     ensures ends { EndsText version_text (record { held = K.held sink.old; faults = K.faults sink.old })
         (record { held = K.held sink.new; faults = K.faults sink.new }) (end_of result) }
@@ -64,24 +73,14 @@ pub fn print_version<K: Sink>(sink: &mut K) -> Result<(), Fault>
     print_text(version_text(), sink)
 }
 
-/// Prints a text.
-pub(crate) fn print_text<K: Sink>(text: &[u8], sink: &mut K) -> Result<(), Fault>
-    ensures ends { EndsText text.now (record { held = K.held sink.old; faults = K.faults sink.old })
-        (record { held = K.held sink.new; faults = K.faults sink.new }) (end_of result) }
-    ensures counts { K.faults sink.old ≤ K.faults sink.new }
-{
-    if put_all(sink, text).is_err() {
-        return Err(Fault::WriteFault);
-    }
-    Ok(())
-}
-
+/// The lines of `help`.
 fn help_text() -> &'static [u8]
     ensures { result.now ≡ help_text }
 {
     HELP
 }
 
+/// The lines of `--version`.
 fn version_text() -> &'static [u8]
     ensures { result.now ≡ version_text }
 {

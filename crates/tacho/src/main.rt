@@ -1,5 +1,6 @@
-//! The program: it hands its words and its streams to the top call, prints on standard error what a device's file
-//! system lacks, a line for each call that failed in a run, and the fault's, and ends with its status.
+//! The program: it hands its words and its streams to the top call, and ends with its status. On standard error it
+//! prints what a device's file system lacks, a line for each action of a run that was refused, for each card that was
+//! turned away and for each call that failed, and the fault's line.
 #![tactic(auto)]
 
 ghost use Rattle.tach_media.specs.Medium.{IsUntouched};
@@ -19,6 +20,7 @@ mod minutes;
 mod minutes_command;
 mod outcome_text;
 mod packets_command;
+mod printing;
 mod reading_command;
 mod record_command;
 mod report_command;
@@ -43,7 +45,7 @@ use std::process::ExitCode;
 use std::{env, fs, io, str};
 use tach_media::{FileMedium, Medium, StdSink, StdSource};
 use tacho_types::{FullCardNumber, write_card_number};
-use top::{nothing, tacho};
+use top::tacho;
 use unit_model::layout::IMAGE_SIZE;
 use words::Words;
 
@@ -80,6 +82,7 @@ enum Access {
     Looking,
 }
 
+/// What the form of the words does with the files.
 fn access_of(words: &Words) -> Access {
     match form_of(words) {
         Some(Form::Demo { .. }) => Access::Passing,
@@ -153,7 +156,7 @@ fn run(rt: &HostRuntime) -> Ended {
             );
             ended
         }
-        Err(fault) => Ended::of(rt.alloc(), nothing(rt.alloc()), fault),
+        Err(fault) => Ended::by_fault(rt.alloc(), fault),
     }
 }
 
@@ -193,6 +196,7 @@ fn tell(rt: &HostRuntime, fault: Fault) -> io::Result<()> {
     }
 }
 
+/// Runs the program, and prints the lines of what was refused, turned away or failed.
 fn main(rt: HostRuntime) -> ExitCode {
     let ended = run(&rt);
     let _ = put_refusals(&mut StdSink::new(rt.stderr()), &ended.outcome.refused);

@@ -10,35 +10,44 @@ use card_match::{SourceFault, compare_source, differences_text, match_source, ma
 use std::alloc::Global;
 
 /// The text of the answer to a match.
+///
+/// # Errors
+///
+/// `BadFile` with the place where the bytes are no unit file with a card file behind it, and `Memory`.
 pub fn match_answer(alloc: Global, b: &[u8]) -> Result<Vec<u8>, Fault>
     requires { length b.now < 2 ^ 32 }
     ensures text { IfOk result (λ text. PrintsMatch b.now text.items) }
     ensures err { IfErr result (IsUnshown (λ place. IsBadSource place b.now)) }
 {
-    let matched = match match_source(alloc, b) {
-        Ok(matched) => matched,
-        Err(SourceFault::BadFile(place)) => return Err(Fault::BadFile(place)),
-        Err(SourceFault::Memory) => return Err(Fault::Memory),
-    };
-    match match_text(alloc, matched) {
-        Ok(text) => Ok(text),
-        Err(_) => Err(Fault::Memory),
-    }
+    let matched = match_source(alloc, b)?;
+    Ok(match_text(alloc, matched)?)
 }
 
 /// The text of all that differs.
+///
+/// # Errors
+///
+/// `BadFile` with the place where the bytes are no unit file with a card file behind it, and `Memory`.
 pub fn match_all_answer(alloc: Global, b: &[u8]) -> Result<Vec<u8>, Fault>
     requires { length b.now < 2 ^ 32 }
     ensures text { IfOk result (λ text. PrintsDifferences b.now text.items) }
     ensures err { IfErr result (IsUnshown (λ place. IsBadSource place b.now)) }
 {
-    let all = match compare_source(alloc, b) {
-        Ok(all) => all,
-        Err(SourceFault::BadFile(place)) => return Err(Fault::BadFile(place)),
-        Err(SourceFault::Memory) => return Err(Fault::Memory),
-    };
-    match differences_text(alloc, &all) {
-        Ok(text) => Ok(text),
-        Err(_) => Err(Fault::Memory),
+    let all = compare_source(alloc, b)?;
+    Ok(differences_text(alloc, &all)?)
+}
+
+/// The end where a source is not compared.
+impl From<SourceFault> for Fault {
+    ghost use Rattle.std.specs.Prelude.{◌≡◌};
+    ghost use Rattle.tacho.specs.Match.{match_refusal_of};
+
+    ghost from_gives = { λ fault end. end ≡ match_refusal_of fault };
+
+    fn from(fault: SourceFault) -> Fault {
+        match fault {
+            SourceFault::BadFile(place) => Fault::BadFile(place),
+            SourceFault::Memory => Fault::Memory,
+        }
     }
 }

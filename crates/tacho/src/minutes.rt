@@ -15,7 +15,7 @@ ghost use Rattle.tacho.specs.Minutes.{without_card, minutes_printed, lines_shown
 ghost use Rattle.tacho.specs.LineRuns.{shown_run, ended_at};
 ghost use Rattle.view_model.specs.declared.Viewed.{Viewed as ViewedMinute};
 
-use activity_codec::{Activity, Steps};
+use activity_codec::{Activity, DAY_MINUTES, Steps};
 use minute_rules::{Alike, Minute, Minutes, Rule};
 use std::alloc::{AllocError, Global};
 use std::marker::Brand;
@@ -24,15 +24,14 @@ use trace_text::{Action, Item, Trace};
 use view_model::{Line, State, UnitShown, Viewed};
 use view_text::add_minute;
 
-/// How many minutes a day has, and the number of its last one.
-const MINUTES_OF_DAY: u32 = 1440;
-
-const LAST_OF_DAY: u32 = 1439;
-
 /// The last second that a time of four bytes can name.
 pub const LAST_TIME: u32 = 4294967295;
 
 /// The lines of the decided minutes of the one span of a trace by a rule, as a unit without a card shows them.
+///
+/// # Errors
+///
+/// `AllocError` where there is no memory for the lines.
 pub fn lines_of(
     alloc: Global,
     rule: Rule,
@@ -168,7 +167,7 @@ fn show_run(
             shown: minute.shown,
         };
         add_minute(lines, next)?;
-        let more = (times - done - 1).min(LAST_OF_DAY - next.minute % MINUTES_OF_DAY);
+        let more = (times - done - 1).min(DAY_MINUTES - 1 - next.minute % DAY_MINUTES);
         end_at(lines.as_mut_slice(), next.minute + more);
         done += 1 + more;
     }

@@ -7,19 +7,24 @@ ghost use Rattle.trace_text.specs.declared.lines_trace.Form.TheVariants.{Minutes
 ghost use Rattle.trace_text.specs.Line.{IsKnown};
 ghost use Rattle.trace_text.specs.Trace.{IsWellFormed};
 ghost use Rattle.std.specs.List.{AllByRecursion};
-ghost use Rattle.tacho.specs.End.{refusal_of};
 ghost use Rattle.tacho.specs.Minutes.{PrintsMinutes, minutes_printed, IsMinutesEnd};
 ghost use Rattle.tacho.specs.Printing.{JudgesText, PrintsFrom, TellsFaults};
 
 use crate::end::Fault;
 use crate::minutes::lines_of;
+use crate::printing::print_text;
 use minute_rules::Rule;
 use std::alloc::{AllocError, Global};
-use tach_media::{Sink, Source, put_all};
-use trace_text::{Trace, TraceFault, read_trace};
+use tach_media::{Sink, Source};
+use trace_text::{Form, Trace, TraceFault, read_trace};
 use view_text::lines_text;
 
 /// The commands `minutes` and `minutes 2009`.
+///
+/// # Errors
+///
+/// `ReadFault`, `BadTrace` and `TooLong` as `read_trace` tells of the source, and `Memory`; then nothing is printed.
+/// `WriteFault` where the sink failed: a front of the text went to it.
 pub fn print_minutes<S: Source, K: Sink>(
     alloc: Global,
     rule: Rule,
@@ -34,28 +39,25 @@ pub fn print_minutes<S: Source, K: Sink>(
     ensures nothing { IfErr result (λ fault. fault ≢ Fault.WriteFault → sink.new ≡ sink.old) }
     ensures other { IfErr result (λ fault. (fault ≢ Fault.Done) × IsMinutesEnd fault) }
 {
-    let trace = match read_trace(alloc, source, trace_text::Form::Minutes) {
-        Ok(trace) => trace,
-        Err(fault) => return Err(refusal(fault)),
-    };
-    let Ok(text) = text_of(alloc, rule, &trace) else {
-        return Err(Fault::Memory);
-    };
-    if put_all(sink, text.as_slice()).is_err() {
-        return Err(Fault::WriteFault);
-    }
-    Ok(())
+    let trace = read_trace(alloc, source, Form::Minutes)?;
+    let text = text_of(alloc, rule, &trace)?;
+    print_text(text.as_slice(), sink)
 }
 
 /// The end where no trace was read.
-pub fn refusal(fault: TraceFault) -> Fault
-    ensures { result ≡ refusal_of fault }
-{
-    match fault {
-        TraceFault::ReadFault => Fault::ReadFault,
-        TraceFault::BadLine(n) => Fault::BadTrace(n),
-        TraceFault::TooLong(n) => Fault::TooLong(n),
-        TraceFault::Memory => Fault::Memory,
+impl From<TraceFault> for Fault {
+    ghost use Rattle.std.specs.Prelude.{◌≡◌};
+    ghost use Rattle.tacho.specs.End.{refusal_of};
+
+    ghost from_gives = { λ fault end. end ≡ refusal_of fault };
+
+    fn from(fault: TraceFault) -> Fault {
+        match fault {
+            TraceFault::ReadFault => Fault::ReadFault,
+            TraceFault::BadLine(n) => Fault::BadTrace(n),
+            TraceFault::TooLong(n) => Fault::TooLong(n),
+            TraceFault::Memory => Fault::Memory,
+        }
     }
 }
 

@@ -10,16 +10,21 @@ ghost use Rattle.tacho.specs.Printing.{JudgesFile, PrintsFrom, TellsFaults};
 use crate::end::Fault;
 use crate::forms::Reading;
 use crate::match_command::{match_all_answer, match_answer};
+use crate::printing::print_text;
 use crate::report_command::{file_chart, file_speeds, file_totals};
 use crate::show_command::put_json;
 use crate::view_command::{file_view, hand_view};
 use std::alloc::Global;
-use tach_media::{Sink, Source, TakeFault, put_all, take_all};
-
-/// The most bytes that a source may have.
-const MOST_BYTES: u32 = 16777216;
+use tach_media::{Sink, Source, TakeFault, take_all};
+use trace_text::MOST_BYTES;
 
 /// Reads a file to its end, and prints what it tells.
+///
+/// # Errors
+///
+/// `ReadFault` where the source failed; `TooLong(0)` where it has more than 16777216 bytes; `BadFile` with the place
+/// where it is no file that the reading reads; `Memory`. Then nothing is printed, but by `show` where memory ran out as
+/// it printed. `WriteFault` where the sink failed: a front of the text went to it.
 pub fn print_reading<S: Source, K: Sink>(
     alloc: Global,
     reading: Reading,
@@ -72,15 +77,8 @@ fn put_text<K: Sink>(alloc: Global, reading: Reading, b: &[u8], sink: &mut K) ->
     ensures cause { result ≡ Err Fault.WriteFault → Rose (K.faults sink.old) (K.faults sink.new) }
     ensures counts { K.faults sink.old ≤ K.faults sink.new }
 {
-    let text = match reading_text(alloc, reading, b) {
-        Ok(text) => text,
-        Err(fault) => return Err(fault),
-    };
-    let shown = text.as_slice();
-    if put_all(sink, shown).is_err() {
-        return Err(Fault::WriteFault);
-    }
-    Ok(())
+    let text = reading_text(alloc, reading, b)?;
+    print_text(text.as_slice(), sink)
 }
 
 /// What is printed of a file, made whole.

@@ -1,28 +1,32 @@
 //! The command `record`: a trace is recorded on the unit and the cards, and what was recorded is counted.
-ghost use Rattle.std.specs.Prelude.{◌≡◌, ◌≢◌, ◌≤◌, OnOk, IfErr};
-ghost use Rattle.std.specs.Io.KnownBytes.{Appends};
-ghost use Rattle.tach_media.specs.Medium.{Rose};
-ghost use Rattle.tach_media.specs.Streams.{AppendsFront};
+ghost use Rattle.std.specs.Prelude.{◌≡◌, ◌≢◌, IfErr};
 ghost use Rattle.unit_model.specs.Image.{IsUnit};
 ghost use Rattle.tacho.specs.End.{end_of, IsBeforeDevices};
 ghost use Rattle.tacho.specs.Outside.{outside};
 ghost use Rattle.tacho.specs.Program.{HasCauses};
 ghost use Rattle.tacho.specs.Formatting.{IsCard};
 ghost use Rattle.tacho.specs.Outcomes.{IsEmpty, outcome_text as text_of_outcome, IsToldForUnit, refusal_of_run};
+ghost use Rattle.tacho.specs.Printing.{PutsText};
 ghost use Rattle.tacho.specs.Recorded.{EndsRecord};
 
 use crate::alone::{is_for_unit, record_alone};
 use crate::end::Fault;
-use crate::minutes_command::refusal;
 use crate::outcome_text::outcome_text;
+use crate::printing::print_text;
 use recorder_with_cards::{RunFault, run_trace};
 use run_outcome::Outcome;
 use std::alloc::Global;
-use tach_media::{Chip, Medium, Sink, Source, put_all};
+use tach_media::{Chip, Medium, Sink, Source};
 use trace_text::{Form, read_trace};
 
 /// The command `record`. A trace without a card's line is recorded on the unit alone, and any other on the unit and
 /// both cards. The outcome is what was recorded; it stays as it was where the trace is not recorded.
+///
+/// # Errors
+///
+/// Before a device is used: `ReadFault`, `BadTrace` and `TooLong` as `read_trace` tells of the source, and `Memory`.
+/// From the opening of the run: `MediumFault`, `BadUnit`, `ClockBack` and `SameCard` as `run_trace` tells. `WriteFault`
+/// where the sink failed, and the trace is recorded.
 pub fn record<S: Source, K: Sink, U: Medium, C: Chip>(
     alloc: Global,
     source: &mut S,
@@ -51,13 +55,8 @@ pub fn record<S: Source, K: Sink, U: Medium, C: Chip>(
         (outside S.left S.faults K.held K.faults U.state C.state C.card source.new sink.new unit.new card_a.new
         card_b.new) (end_of result) }
 {
-    let trace = match read_trace(alloc, source, Form::Whole) {
-        Ok(trace) => trace,
-        Err(fault) => return Err(refusal(fault)),
-    };
-    let Ok(reserved) = Outcome::reserve(alloc, &trace) else {
-        return Err(Fault::Memory);
-    };
+    let trace = read_trace(alloc, source, Form::Whole)?;
+    let reserved = Outcome::reserve(alloc, &trace)?;
     *outcome = reserved;
     if is_for_unit(&trace.items) {
         if let Err(fault) = record_alone(&trace, unit, outcome) {
@@ -85,14 +84,8 @@ pub fn refusal_of_run(fault: RunFault) -> Fault
 
 /// Prints the five lines of an outcome.
 fn print_outcome<K: Sink>(outcome: &Outcome, sink: &mut K) -> Result<(), Fault>
-    ensures ok { OnOk result (Appends (K.held sink.old) (K.held sink.new) (text_of_outcome outcome.now)) }
-    ensures err { IfErr result (λ fault. (fault ≡ Fault.WriteFault)
-        × AppendsFront (K.held sink.old) (K.held sink.new) (text_of_outcome outcome.now)) }
-    ensures cause { IfErr result (λ fault. Rose (K.faults sink.old) (K.faults sink.new)) }
-    ensures counts { K.faults sink.old ≤ K.faults sink.new }
+    ensures { PutsText (text_of_outcome outcome.now) (record { held = K.held sink.old; faults = K.faults sink.old })
+        (record { held = K.held sink.new; faults = K.faults sink.new }) result }
 {
-    if put_all(sink, outcome_text(outcome).as_slice()).is_err() {
-        return Err(Fault::WriteFault);
-    }
-    Ok(())
+    print_text(outcome_text(outcome).as_slice(), sink)
 }

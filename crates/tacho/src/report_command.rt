@@ -10,12 +10,16 @@ ghost use Rattle.tacho.specs.Reports.{PrintsTotals, PrintsChart};
 ghost use Rattle.tacho.specs.Read.{IsUnshown};
 
 use crate::end::Fault;
-use crate::view_command::{is_unit_file, refusal};
+use crate::view_command::is_unit_file;
 use day_reports::{card_chart, card_totals, unit_chart, unit_totals};
 use std::alloc::Global;
 use unit_speeds::speeds_text;
 
 /// The totals of a file, of all its days or of the last so many.
+///
+/// # Errors
+///
+/// `BadFile` with the place where it is neither a unit file nor a card file, and `Memory`.
 pub fn file_totals(alloc: Global, last: Option<u32>, b: &[u8]) -> Result<Vec<u8>, Fault>
     requires { length b.now < 2 ^ 32 }
     ensures text { IfOk result (λ text. PrintsTotals last b.now text.items) }
@@ -28,6 +32,10 @@ pub fn file_totals(alloc: Global, last: Option<u32>, b: &[u8]) -> Result<Vec<u8>
 }
 
 /// The picture of a file, of all its days or of the last so many.
+///
+/// # Errors
+///
+/// `BadFile` with the place where it is neither a unit file nor a card file, and `Memory`.
 pub fn file_chart(alloc: Global, last: Option<u32>, b: &[u8]) -> Result<Vec<u8>, Fault>
     requires { length b.now < 2 ^ 32 }
     ensures text { IfOk result (λ text. PrintsChart last b.now text.items) }
@@ -45,10 +53,7 @@ fn unit_totals_text(alloc: Global, last: Option<u32>, b: &[u8]) -> Result<Vec<u8
     ensures text { IfOk result (λ text. PrintsUnitTotals last b.now text.items) }
     ensures err { IfErr result (IsUnshown (λ place. IsBadUnitFile place b.now)) }
 {
-    match unit_totals(alloc, b, last) {
-        Ok(text) => Ok(text),
-        Err(fault) => Err(refusal(fault)),
-    }
+    Ok(unit_totals(alloc, b, last)?)
 }
 
 /// The totals of a card file.
@@ -57,10 +62,7 @@ fn card_totals_text(alloc: Global, last: Option<u32>, b: &[u8]) -> Result<Vec<u8
     ensures text { IfOk result (λ text. PrintsCardTotals last b.now text.items) }
     ensures err { IfErr result (IsUnshown (λ place. IsBadCardFile place b.now)) }
 {
-    match card_totals(alloc, b, last) {
-        Ok(text) => Ok(text),
-        Err(fault) => Err(refusal(fault)),
-    }
+    Ok(card_totals(alloc, b, last)?)
 }
 
 /// The picture of a unit file.
@@ -69,10 +71,7 @@ fn unit_chart_text(alloc: Global, last: Option<u32>, b: &[u8]) -> Result<Vec<u8>
     ensures text { IfOk result (λ text. PrintsUnitChart last b.now text.items) }
     ensures err { IfErr result (IsUnshown (λ place. IsBadUnitFile place b.now)) }
 {
-    match unit_chart(alloc, b, last) {
-        Ok(text) => Ok(text),
-        Err(fault) => Err(refusal(fault)),
-    }
+    Ok(unit_chart(alloc, b, last)?)
 }
 
 /// The picture of a card file.
@@ -81,20 +80,18 @@ fn card_chart_text(alloc: Global, last: Option<u32>, b: &[u8]) -> Result<Vec<u8>
     ensures text { IfOk result (λ text. PrintsCardChart last b.now text.items) }
     ensures err { IfErr result (IsUnshown (λ place. IsBadCardFile place b.now)) }
 {
-    match card_chart(alloc, b, last) {
-        Ok(text) => Ok(text),
-        Err(fault) => Err(refusal(fault)),
-    }
+    Ok(card_chart(alloc, b, last)?)
 }
 
-/// The detailed speed of a unit file, of all its minutes or of the last so many.
+/// The detailed speed of a unit file, in km/h, of all its minutes or of the last so many.
+///
+/// # Errors
+///
+/// `BadFile` with the place where it is no unit file, and `Memory`.
 pub fn file_speeds(alloc: Global, last: Option<u32>, b: &[u8]) -> Result<Vec<u8>, Fault>
     requires { length b.now < 2 ^ 32 }
     ensures text { IfOk result (λ text. PrintsSpeeds last b.now text.items) }
     ensures err { IfErr result (IsUnshown (λ place. IsBadUnitFile place b.now)) }
 {
-    match speeds_text(alloc, b, last) {
-        Ok(text) => Ok(text),
-        Err(fault) => Err(refusal(fault)),
-    }
+    Ok(speeds_text(alloc, b, last)?)
 }

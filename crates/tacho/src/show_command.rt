@@ -14,12 +14,18 @@ ghost use Rattle.tacho.specs.Show.{PutsPieces};
 ghost use Rattle.tacho.specs.View.{IsBadFile};
 
 use crate::end::Fault;
-use crate::view_command::{is_unit_file, refusal};
+use crate::printing::print_text;
+use crate::view_command::is_unit_file;
 use file_json::{Piece, card_pieces, piece_text, unit_pieces};
 use std::alloc::Global;
-use tach_media::{Sink, put_all};
+use tach_media::Sink;
 
 /// Prints all that stands in a file, as JSON, of all its days or of the last so many.
+///
+/// # Errors
+///
+/// `BadFile` with the place where it is neither a unit file nor a card file, and nothing is printed. `Memory`, also
+/// behind a front of the text, and `WriteFault` where the sink failed, behind a front of it.
 pub fn put_json<K: Sink>(
     alloc: Global,
     last: Option<u32>,
@@ -31,10 +37,7 @@ pub fn put_json<K: Sink>(
     ensures cause { result ≡ Err Fault.WriteFault → Rose (K.faults sink.old) (K.faults sink.new) }
     ensures counts { K.faults sink.old ≤ K.faults sink.new }
 {
-    let pieces = match file_pieces(alloc, last, b) {
-        Ok(pieces) => pieces,
-        Err(fault) => return Err(fault),
-    };
+    let pieces = file_pieces(alloc, last, b)?;
     put_pieces(alloc, b, pieces.as_slice(), sink)
 }
 
@@ -58,10 +61,7 @@ fn pieces_of_unit(alloc: Global, last: Option<u32>, b: &[u8]) -> Result<Vec<Piec
     ensures each { IfOk result (λ pieces. All (IsPiece b.now) pieces.items) }
     ensures err { IfErr result (IsUnshown (λ place. IsBadUnitFile place b.now)) }
 {
-    match unit_pieces(alloc, last, b) {
-        Ok(pieces) => Ok(pieces),
-        Err(fault) => Err(refusal(fault)),
-    }
+    Ok(unit_pieces(alloc, last, b)?)
 }
 
 /// Those of a card file.
@@ -71,10 +71,7 @@ fn pieces_of_card(alloc: Global, last: Option<u32>, b: &[u8]) -> Result<Vec<Piec
     ensures each { IfOk result (λ pieces. All (IsPiece b.now) pieces.items) }
     ensures err { IfErr result (IsUnshown (λ place. IsBadCardFile place b.now)) }
 {
-    match card_pieces(alloc, last, b) {
-        Ok(pieces) => Ok(pieces),
-        Err(fault) => Err(refusal(fault)),
-    }
+    Ok(card_pieces(alloc, last, b)?)
 }
 
 /// Writes pieces, one after the other.
@@ -85,10 +82,7 @@ fn put_pieces<K: Sink>(alloc: Global, b: &[u8], pieces: &[Piece], sink: &mut K) 
     ensures counts { K.faults sink.old ≤ K.faults sink.new }
 {
     for piece in pieces {
-        match put_piece(alloc, b, *piece, sink) {
-            Ok(()) => {}
-            Err(fault) => return Err(fault),
-        }
+        put_piece(alloc, b, *piece, sink)?;
     }
     Ok(())
 }
@@ -100,12 +94,6 @@ fn put_piece<K: Sink>(alloc: Global, b: &[u8], piece: Piece, sink: &mut K) -> Re
     ensures cause { result ≡ Err Fault.WriteFault → Rose (K.faults sink.old) (K.faults sink.new) }
     ensures counts { K.faults sink.old ≤ K.faults sink.new }
 {
-    let text = match piece_text(alloc, b, piece) {
-        Ok(text) => text,
-        Err(_) => return Err(Fault::Memory),
-    };
-    if put_all(sink, text.as_slice()).is_err() {
-        return Err(Fault::WriteFault);
-    }
-    Ok(())
+    let text = piece_text(alloc, b, piece)?;
+    print_text(text.as_slice(), sink)
 }

@@ -4,7 +4,7 @@ ghost use Rattle.tacho.specs.Forms.{form_of};
 ghost use Rattle.tacho.specs.Outside.{outside, tells, handed};
 ghost use Rattle.tacho.specs.declared.forms.Form.TheVariants.{Record as FormOfRecord, FormatCard as FormOfFormat};
 ghost use Rattle.tacho.specs.declared.forms.Form.TheVariants.{CardFile as FormOfCard, Demo as FormOfDemo};
-ghost use Rattle.tacho.specs.Outcomes.{IsEmpty, IsToldForUnit};
+ghost use Rattle.tacho.specs.Outcomes.{IsToldForUnit};
 ghost use Rattle.tacho.specs.Program.{AreDevices, Ends, Spares, Does};
 ghost use Rattle.tacho.specs.Serving.{AnswersWaiting};
 ghost use Rattle.tacho.specs.Packets.{WritesFile};
@@ -111,7 +111,7 @@ pub fn tacho<S: Peer<K>, K: Sink, F: Sink, U: Medium, C: Chip>(
         (file.new ≡ file.old) result.fault }
 {
     match form_of(words) {
-        None => Ended::of(alloc, nothing(alloc), Fault::Usage),
+        None => Ended::by_fault(alloc, Fault::Usage),
         Some(form) => perform(alloc, form, source, sink, file, unit, card_a, card_b),
     }
 }
@@ -141,62 +141,42 @@ fn perform<S: Peer<K>, K: Sink, F: Sink, U: Medium, C: Chip>(
         (record { link = K.held sink.new; file = F.held file.new }) (Rose (F.faults file.old) (F.faults file.new))
         (file.new ≡ file.old) result.fault }
 {
-    let nothing = nothing(alloc);
     match form {
-        Form::Minutes { rule } => Ended::after(
-            alloc,
-            nothing,
-            print_minutes(alloc, rule, source, sink),
-        ),
+        Form::Minutes { rule } => Ended::by_answer(alloc, print_minutes(alloc, rule, source, sink)),
         Form::Record => perform_record(alloc, source, sink, unit, card_a, card_b),
         Form::FormatCard { card, identity } => {
             perform_format(alloc, card, &identity, source, sink, unit, card_a, card_b)
         }
-        Form::FormatUnit { identity } => Ended::after(
-            alloc,
-            nothing,
-            make_unit(&identity, unit, sink),
-        ),
-        Form::Upgrade => Ended::after(alloc, nothing, upgrade_unit(unit, sink)),
+        Form::FormatUnit { identity } => Ended::by_answer(alloc, make_unit(&identity, unit, sink)),
+        Form::Upgrade => Ended::by_answer(alloc, upgrade_unit(unit, sink)),
         Form::State => {
             let told = devices_state(unit, card_a, card_b);
-            Ended::after(alloc, nothing, print_state(alloc, &told, sink))
+            Ended::by_answer(alloc, print_state(alloc, &told, sink))
         }
-        Form::Serve => Ended::of(alloc, nothing, service_end(serve(source, sink, unit))),
-        Form::ServeHex => {
-            Ended::of(
-                alloc,
-                nothing,
-                lines_end(serve_lines(alloc, source, sink, unit)),
-            )
-        }
-        Form::ServePackets => Ended::of(
+        Form::Serve => Ended::by_fault(alloc, service_end(serve(source, sink, unit))),
+        Form::ServeHex => Ended::by_fault(alloc, lines_end(serve_lines(alloc, source, sink, unit))),
+        Form::ServePackets => Ended::by_fault(alloc, service_end(serve_packets(source, sink, unit))),
+        Form::DownloadPackets => Ended::by_fault(
             alloc,
-            nothing,
-            service_end(serve_packets(source, sink, unit)),
-        ),
-        Form::DownloadPackets => Ended::of(
-            alloc,
-            nothing,
             packets_end(download_packets(alloc, source, sink, file)),
         ),
         Form::Download => {
             let mut wire = Wire::new(alloc);
             let done = download(alloc, sink, unit, &mut wire);
-            Ended::with(nothing, wire, download_end(done))
+            Ended::by_wire(alloc, wire, download_end(done))
         }
         Form::DownloadNoisy { seed } => {
             let mut wire = Wire::new(alloc);
             let done = download_noisy(alloc, seed, sink, unit, &mut wire);
-            Ended::with(nothing, wire, download_end(done))
+            Ended::by_wire(alloc, wire, download_end(done))
         }
         Form::Read { reading } => {
-            Ended::after(alloc, nothing, print_reading(alloc, reading, source, sink))
+            Ended::by_answer(alloc, print_reading(alloc, reading, source, sink))
         }
         Form::CardFile { card } => perform_card(alloc, card, source, sink, unit, card_a, card_b),
         Form::Demo { seed } => perform_demo(alloc, seed, source, sink, unit, card_a, card_b),
-        Form::Help => Ended::after(alloc, nothing, print_help(sink)),
-        Form::Version => Ended::after(alloc, nothing, print_version(sink)),
+        Form::Help => Ended::by_answer(alloc, print_help(sink)),
+        Form::Version => Ended::by_answer(alloc, print_version(sink)),
     }
 }
 
@@ -214,7 +194,7 @@ fn perform_record<S: Source, K: Sink, U: Medium, C: Chip>(
         (handed source.old sink.old unit.old card_a.old card_b.old)
         (handed source.new sink.new unit.new card_a.new card_b.new) result }
 {
-    let mut outcome = nothing(alloc);
+    let mut outcome = Outcome::empty(alloc);
     let done = record(alloc, source, sink, unit, card_a, card_b, &mut outcome);
     Ended::after(alloc, outcome, done)
 }
@@ -236,16 +216,13 @@ fn perform_format<S: Source, K: Sink, U: Medium, C: Chip>(
         (handed source.old sink.old unit.old card_a.old card_b.old)
         (handed source.new sink.new unit.new card_a.new card_b.new) result }
 {
-    let outcome = nothing(alloc);
     match card {
-        Card::A => Ended::after(
+        Card::A => Ended::by_answer(
             alloc,
-            outcome,
             format_card(alloc, identity, Device::CardA, card_a, sink),
         ),
-        Card::B => Ended::after(
+        Card::B => Ended::by_answer(
             alloc,
-            outcome,
             format_card(alloc, identity, Device::CardB, card_b, sink),
         ),
     }
@@ -266,16 +243,13 @@ fn perform_card<S: Source, K: Sink, U: Medium, C: Chip>(
         (handed source.old sink.old unit.old card_a.old card_b.old)
         (handed source.new sink.new unit.new card_a.new card_b.new) result }
 {
-    let outcome = nothing(alloc);
     match card {
-        Card::A => Ended::of(
+        Card::A => Ended::by_fault(
             alloc,
-            outcome,
             card_end(Device::CardA, write_card_file(card_a, sink)),
         ),
-        Card::B => Ended::of(
+        Card::B => Ended::by_fault(
             alloc,
-            outcome,
             card_end(Device::CardB, write_card_file(card_b, sink)),
         ),
     }
@@ -296,7 +270,7 @@ fn perform_demo<S: Source, K: Sink, U: Medium, C: Chip>(
         (handed source.old sink.old unit.old card_a.old card_b.old)
         (handed source.new sink.new unit.new card_a.new card_b.new) result }
 {
-    let mut outcome = nothing(alloc);
+    let mut outcome = Outcome::empty(alloc);
     let done = demo(
         alloc,
         seed,
@@ -308,11 +282,4 @@ fn perform_demo<S: Source, K: Sink, U: Medium, C: Chip>(
         &mut outcome,
     );
     Ended::after(alloc, outcome, done)
-}
-
-/// An outcome without a line.
-pub fn nothing(alloc: Global) -> Outcome
-    ensures { IsEmpty result }
-{
-    Outcome::empty(alloc)
 }

@@ -7,7 +7,7 @@ ghost use Rattle.file_view.specs.UnitFiles.{IsBadUnitFile};
 ghost use Rattle.file_view.specs.Showing.{ShowsCardFile};
 ghost use Rattle.file_view.specs.UnitShowing.{ShowsUnitFile};
 ghost use Rattle.tacho.specs.View.{is_unit_file, PrintsUnit, PrintsCard, PrintsFile, IsBadFile, PrintsHands};
-ghost use Rattle.tacho.specs.View.{PrintsByHand, IsNoCardFile, view_refusal_of};
+ghost use Rattle.tacho.specs.View.{PrintsByHand, IsNoCardFile};
 ghost use Rattle.tacho.specs.Read.{IsUnshown};
 
 use crate::end::Fault;
@@ -15,13 +15,15 @@ use file_view::{
     CardHistory, UnitHistory, ViewFault, by_hand, card_text, last_days, last_messages,
     read_card_file, read_download, unit_text,
 };
+use link_model::services::MESSAGE;
 use std::alloc::Global;
 use view_text::by_hand_text;
 
-/// The first byte of a message of a unit file (Annex IB, Appendix 7, 2.2.6); a card file begins with no such byte.
-const MESSAGE: u8 = 0x76;
-
 /// The view text of a file, of all its days or of the last so many.
+///
+/// # Errors
+///
+/// `BadFile` with the place where it is neither a unit file nor a card file, and `Memory`.
 pub fn file_view(alloc: Global, last: Option<u32>, b: &[u8]) -> Result<Vec<u8>, Fault>
     requires { length b.now < 2 ^ 32 }
     ensures text { IfOk result (λ text. PrintsFile last b.now text.items) }
@@ -33,7 +35,7 @@ pub fn file_view(alloc: Global, last: Option<u32>, b: &[u8]) -> Result<Vec<u8>, 
     card_view(alloc, last, b)
 }
 
-/// Whether a file is read as a unit file.
+/// Whether a file is read as a unit file: it begins with a message (Annex IB, Appendix 7, 2.2.6), as no card file does.
 pub fn is_unit_file(b: &[u8]) -> bool
     ensures { result ≡ is_unit_file b.now }
 {
@@ -49,14 +51,8 @@ fn unit_view(alloc: Global, last: Option<u32>, b: &[u8]) -> Result<Vec<u8>, Faul
     ensures text { IfOk result (λ text. PrintsUnit last b.now text.items) }
     ensures err { IfErr result (IsUnshown (λ place. IsBadUnitFile place b.now)) }
 {
-    let history = match unit_history(alloc, last, b) {
-        Ok(history) => history,
-        Err(fault) => return Err(refusal(fault)),
-    };
-    match unit_text(alloc, &history) {
-        Ok(text) => Ok(text),
-        Err(_) => Err(Fault::Memory),
-    }
+    let history = unit_history(alloc, last, b)?;
+    Ok(unit_text(alloc, &history)?)
 }
 
 /// The minutes of a unit file, of all days or of the last so many messages of days.
@@ -77,14 +73,8 @@ fn card_view(alloc: Global, last: Option<u32>, b: &[u8]) -> Result<Vec<u8>, Faul
     ensures text { IfOk result (λ text. PrintsCard last b.now text.items) }
     ensures err { IfErr result (IsUnshown (λ place. IsBadCardFile place b.now)) }
 {
-    let history = match card_history(alloc, last, b) {
-        Ok(history) => history,
-        Err(fault) => return Err(refusal(fault)),
-    };
-    match card_text(alloc, &history) {
-        Ok(text) => Ok(text),
-        Err(_) => Err(Fault::Memory),
-    }
+    let history = card_history(alloc, last, b)?;
+    Ok(card_text(alloc, &history)?)
 }
 
 /// The entries of a card file, of all days or of the newest so many.
@@ -99,7 +89,11 @@ fn card_history(alloc: Global, last: Option<u32>, b: &[u8]) -> Result<CardHistor
     }
 }
 
-/// The view text of a card file's entries by hand. A unit file tells none, and is refused at its first byte.
+/// The view text of a card file's entries by hand.
+///
+/// # Errors
+///
+/// `BadFile` with the place where it is no card file, 0 where it is a unit file, and `Memory`.
 pub fn hand_view(alloc: Global, b: &[u8]) -> Result<Vec<u8>, Fault>
     requires { length b.now < 2 ^ 32 }
     ensures text { IfOk result (λ text. PrintsByHand b.now text.items) }
@@ -117,22 +111,21 @@ fn hands_view(alloc: Global, b: &[u8]) -> Result<Vec<u8>, Fault>
     ensures text { IfOk result (λ text. PrintsHands b.now text.items) }
     ensures err { IfErr result (IsUnshown (λ place. IsBadCardFile place b.now)) }
 {
-    let entries = match by_hand(alloc, b) {
-        Ok(entries) => entries,
-        Err(fault) => return Err(refusal(fault)),
-    };
-    match by_hand_text(alloc, entries.as_slice()) {
-        Ok(text) => Ok(text),
-        Err(_) => Err(Fault::Memory),
-    }
+    let entries = by_hand(alloc, b)?;
+    Ok(by_hand_text(alloc, entries.as_slice())?)
 }
 
 /// The end where a file is not shown.
-pub fn refusal(fault: ViewFault) -> Fault
-    ensures { result ≡ view_refusal_of fault }
-{
-    match fault {
-        ViewFault::BadFile(place) => Fault::BadFile(place),
-        ViewFault::Memory => Fault::Memory,
+impl From<ViewFault> for Fault {
+    ghost use Rattle.std.specs.Prelude.{◌≡◌};
+    ghost use Rattle.tacho.specs.View.{view_refusal_of};
+
+    ghost from_gives = { λ fault end. end ≡ view_refusal_of fault };
+
+    fn from(fault: ViewFault) -> Fault {
+        match fault {
+            ViewFault::BadFile(place) => Fault::BadFile(place),
+            ViewFault::Memory => Fault::Memory,
+        }
     }
 }

@@ -33,6 +33,10 @@ impl Words {
     }
 
     /// Adds a word at the end.
+    ///
+    /// # Errors
+    ///
+    /// `Memory` where there is none; the list stays as it was.
     pub fn push(&mut self, word: &str) -> Result<(), Memory>
         ensures ok { OnOk result (self.new ≡ self.old ++ word.now ∷ []) }
         ensures err { OnErr result (self.new ≡ self.old) }

@@ -3,12 +3,15 @@ use Rattle.std.specs.Prelude.{ℕ, List, [], ◌∷◌}
 use Rattle.card_layout.specs.Fields.{joined, field_at, number_in}
 use Rattle.tacho_types.specs.declared.card_number.FullCardNumber.{FullCardNumber}
 
+-- the widths of its fields
 abbrev pub card_number_widths : List ℕ
 card_number_widths = 1 ∷ 1 ∷ 16 ∷ []
 
+-- a card number in bytes
 abbrev pub card_number_bytes : FullCardNumber → List ℕ
 card_number_bytes v = joined ((v.kind ∷ []) ∷ (v.state.0 ∷ []) ∷ v.number ∷ [])
 
+-- the card number that bytes tell
 abbrev pub card_number_of : List ℕ → FullCardNumber
 card_number_of bytes =
     record {

@@ -30,5 +30,6 @@ bcd2_of bytes = judged (first_bad_half bytes)
 abbrev pub digits_byte : ℕ → ℕ
 digits_byte n = n / 10 * 16 + n % 10
 
+-- a number below 10000 in two bytes of decimal digits
 abbrev pub bcd2_bytes : Bcd2 → List ℕ
 bcd2_bytes v = digits_byte (v.0 / 100) ∷ digits_byte (v.0 % 100) ∷ []

@@ -4,13 +4,16 @@ use Rattle.card_layout.specs.Fields.{joined, field_at, number_in}
 use Rattle.tacho_types.specs.Numbers.{time_bytes, time_of, odometer_bytes, odometer_of}
 use Rattle.tacho_types.specs.declared.places.PlaceEntry.{PlaceEntry}
 
+-- the widths of its fields
 abbrev pub place_widths : List ℕ
 place_widths = 4 ∷ 1 ∷ 1 ∷ 1 ∷ 3 ∷ []
 
+-- a place entry in bytes
 abbrev pub place_bytes : PlaceEntry → List ℕ
 place_bytes v =
     joined (time_bytes v.time ∷ (v.kind ∷ []) ∷ (v.country.0 ∷ []) ∷ (v.region ∷ []) ∷ odometer_bytes v.odometer ∷ [])
 
+-- the place entry that bytes tell
 abbrev pub place_of : List ℕ → PlaceEntry
 place_of bytes =
     record {

@@ -16,7 +16,11 @@ impl Bcd2 {
 #[derive(Clone, Copy, Debug, Default, PartialEq, Eq)]
 pub struct BadValue(pub u8);
 
-/// The number in two bytes; `BadValue` with the place of the first half-byte above 9 where there is one.
+/// The number in two bytes, a decimal digit in each half-byte.
+///
+/// # Errors
+///
+/// `BadValue` exactly where a half-byte exceeds 9, with the place of the first such one.
 pub fn read_bcd2(b: &[u8]) -> Result<Bcd2, BadValue>
     requires { length b.now ≡ 2 }
     ensures value { result ≡ bcd2_of b.now }

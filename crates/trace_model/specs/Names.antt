@@ -3,6 +3,7 @@ use Rattle.std.specs.Prelude.{ℕ, if◌then◌else◌, Option, Some, None, List
 use Rattle.trace_model.specs.declared.Card.{Card}
 use Rattle.trace_model.specs.declared.Card.TheVariants.{A, B}
 
+-- what a card is called: `a` or `b`
 abbrev pub card_name : Card → List ℕ
 card_name A = codes "a"
 card_name B = codes "b"

@@ -39,10 +39,11 @@ item_seconds (Run seconds speed) = seconds
 item_seconds (Off seconds) = seconds
 item_seconds (Act action) = 0
 
+-- how many seconds these lines spell together
 abbrev pub total_seconds : List Item → ℕ
 total_seconds items = sum_by item_seconds items
 
--- the number of the next second
+-- the number of the second behind these lines, where their first second has this number
 abbrev pub number_after : ℕ → List Item → ℕ
 number_after start items = start + total_seconds items
 
@@ -53,6 +54,7 @@ waiting_from waiting (Run seconds speed ∷ items) = waiting_from [] items
 waiting_from waiting (Off seconds ∷ items) = waiting_from waiting items
 waiting_from waiting (Act action ∷ items) = waiting_from (waiting ++ action ∷ []) items
 
+-- the actions behind these lines that wait for the next second with power, where none waited before them
 abbrev pub waiting_after : List Item → List Action
 waiting_after items = waiting_from [] items
 

@@ -7,7 +7,8 @@ use Rattle.trace_model.specs.Trace.{total_seconds}
 use Rattle.trace_text.specs.Line.{InRange}
 use Rattle.trace_text.specs.Trace.{RunComes, HasRuns, IsWellFormed}
 use Rattle.trace_text.specs.Demo.{drawn, starts, part_of, parts_of, day_of, days_of, demo_items}
-use Rattle.trace_text.specs.declared.drawn_trace.TheConstants.{PARTS, DAYS, DAY_SECONDS, FIRST_SECOND}
+use Rattle.activity_codec.specs.declared.day.TheConstants.{DAY_SECONDS}
+use Rattle.trace_text.specs.declared.drawn_trace.TheConstants.{PARTS, DAYS, FIRST_SECOND}
 use Rattle.trace_text.proofs.Groups.{parts-few, demo-whole, length-starts}
 
 -- items that may stand behind an action

@@ -11,7 +11,8 @@ use Rattle.trace_model.specs.declared.Item.{Item}
 use Rattle.trace_model.specs.declared.Item.TheVariants.{Run, Act}
 use Rattle.trace_model.specs.Trace.{item_seconds, total_seconds}
 use Rattle.trace_text.specs.Demo.{next_drawn, drawn, starts, part, part_of, parts_of, day_of, days_of, demo_items}
-use Rattle.trace_text.specs.declared.drawn_trace.TheConstants.{PARTS, DAYS, DAY_SECONDS}
+use Rattle.activity_codec.specs.declared.day.TheConstants.{DAY_SECONDS}
+use Rattle.trace_text.specs.declared.drawn_trace.TheConstants.{PARTS, DAYS}
 
 -- ---- the numbers
 

@@ -7,7 +7,8 @@ use Rattle.trace_model.specs.declared.Item.{Item}
 use Rattle.trace_model.specs.declared.Item.TheVariants.{Run, Act}
 use Rattle.trace_model.specs.Trace.{total_seconds}
 use Rattle.trace_text.specs.Demo.{next_drawn, drawn, pick_numbered, part, part_of, parts_of, day_of, days_of}
-use Rattle.trace_text.specs.declared.drawn_trace.TheConstants.{PARTS, DAY_SECONDS}
+use Rattle.activity_codec.specs.declared.day.TheConstants.{DAY_SECONDS}
+use Rattle.trace_text.specs.declared.drawn_trace.TheConstants.{PARTS}
 use Rattle.trace_text.proofs.Groups.{drawn-one, drawn-two, drawn-three, parts-none, parts-more, days-none, days-more, day-is, total-append}
 
 -- ---- a part, of three numbers that are drawn behind x

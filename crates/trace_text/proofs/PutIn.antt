@@ -4,7 +4,7 @@ use Rattle.std.specs.List.{AllByRecursion}
 use Rattle.trace_model.specs.declared.Item.{Item}
 use Rattle.trace_model.specs.declared.Item.TheVariants.{Run, Off, Act}
 use Rattle.trace_text.specs.declared.lines_trace.Form.{Form}
-use Rattle.trace_text.specs.declared.lines_trace.Form.TheVariants.{Minutes, UnitAlone, Whole}
+use Rattle.trace_text.specs.declared.lines_trace.Form.TheVariants.{Minutes, Whole}
 use Rattle.trace_text.specs.Line.{IsKnown, InRange}
 use Rattle.trace_text.specs.Trace.{put_in, waits, added, open_from, waiting_from, opened, ended, items_of, RunComes, HasRuns}
 use Rattle.trace_text.specs.Judged.{items_before}
@@ -70,7 +70,6 @@ ended-few written = all-few None written
 
 put_in-known : (form : Form) → IsKnown form (Run 1 0)
 put_in-known Minutes = (refl, (omega arith, omega arith, omega arith))
-put_in-known UnitAlone = (refl, (omega arith, omega arith, omega arith))
 put_in-known Whole = (refl, (omega arith, omega arith, omega arith))
 
 all_known : (form : Form) (waiting : Option ℕ) (written : List (ℕ × Item)) → AllKnown form written → AllByRecursion (IsKnown form) (items_of (all_of waiting written))

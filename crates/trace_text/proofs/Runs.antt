@@ -1,5 +1,5 @@
 -- A `run` line: its fields, and the text that it begins.
-use Rattle.std.proofs.Common.{◌≡◌, ◌∙◌, ℕ, suc, ◌+◌, ◌-◌, ◌<◌, ◌≤◌, ◌^◌, Bool, true, false, ◌||◌, List, [], ◌∷◌, ◌++◌, length, take, drop, get_or, refl, ap, sym, arith, append_assoc, length-append}
+use Rattle.std.proofs.Common.{◌≡◌, ◌∙◌, ℕ, suc, ◌+◌, ◌-◌, ◌<◌, ◌≤◌, ◌^◌, true, false, List, [], ◌∷◌, ◌++◌, length, take, drop, get_or, refl, ap, sym, arith, append_assoc, length-append}
 use Rattle.std.specs.Prelude.{◌==◌, IsTrue, codes}
 use Rattle.std.specs.Fmt.{decimal}
 use Rattle.std.specs.Str.Parse.{AllDigits, digits_value}
@@ -11,7 +11,7 @@ use Rattle.text_fields.proofs.PieceLemmas.{has, pieces-found, pieces-none}
 use Rattle.text_fields.proofs.NumberLemmas.{spelled, spells, other_byte}
 use Rattle.trace_model.specs.declared.Item.TheVariants.{Run}
 use Rattle.trace_text.specs.declared.lines_trace.Form.{Form}
-use Rattle.trace_text.specs.declared.lines_trace.Form.TheVariants.{Minutes, UnitAlone, Whole}
+use Rattle.trace_text.specs.declared.lines_trace.Form.TheVariants.{Minutes, Whole}
 use Rattle.trace_text.specs.Line.{item_fields, knows, InRange, IsItem}
 use Rattle.trace_text.specs.RunLines.{run_line}
 use Rattle.trace_text.specs.Text.{counts, fields, text_lines}
@@ -48,7 +48,6 @@ module _ (seconds speed : ℕ) (range : InRange (Run seconds speed)) where
 
   known : (form : Form) → IsTrue (knows form (Run seconds speed))
   known Minutes = refl
-  known UnitAlone = refl
   known Whole = refl
 
   pub run-item : (form : Form) → IsItem form (fields (run_line seconds speed)) (Run seconds speed)

@@ -9,7 +9,8 @@ use Rattle.trace_model.specs.declared.Action.TheVariants.{Select, Insert}
 use Rattle.trace_model.specs.declared.Item.{Item}
 use Rattle.trace_model.specs.declared.Item.TheVariants.{Run, Act}
 use Rattle.trace_model.specs.Trace.{total_seconds}
-use Rattle.trace_text.specs.declared.drawn_trace.TheConstants.{PARTS, DAYS, DAY_SECONDS}
+use Rattle.activity_codec.specs.declared.day.TheConstants.{DAY_SECONDS}
+use Rattle.trace_text.specs.declared.drawn_trace.TheConstants.{PARTS, DAYS}
 
 -- the number that is drawn behind another
 abbrev pub next_drawn : ℕ → ℕ
@@ -24,6 +25,7 @@ drawn (suc n) x = drawn n (next_drawn x)
 abbrev pub starts : (size n x : ℕ) → List ℕ
 starts size n x = map (λ k. drawn (size * k) x) (range_with_len 0 n)
 
+-- rest, available or work, by the numbers 0, 1 and any other
 abbrev pub pick_numbered : ℕ → Pick
 pick_numbered zero = Rest
 pick_numbered (suc zero) = Available
@@ -37,17 +39,19 @@ part stop drive pick =
     ∷ Act (Select Driver (pick_numbered (pick / 65536 % 3)))
     ∷ []
 
--- the part that is drawn behind x, and n of them
+-- the part that is drawn behind x
 abbrev pub part_of : ℕ → List Item
 part_of x = part (drawn 1 x) (drawn 2 x) (drawn 3 x)
 
+-- n of them, each drawn behind the one before
 unfoldable pub parts_of : (n x : ℕ) → List Item
 parts_of n x = flat_map part_of (starts 3 n x)
 
--- a day: its parts, then standing to its end; and n days
+-- a day that is drawn behind x: its parts, then standing to its end
 unfoldable pub day_of : ℕ → List Item
 day_of x = parts_of PARTS x ++ Run (DAY_SECONDS - total_seconds (parts_of PARTS x)) 0 ∷ []
 
+-- n of them, each drawn behind the one before
 unfoldable pub days_of : (n x : ℕ) → List Item
 days_of n x = flat_map day_of (starts (3 * PARTS) n x)
 

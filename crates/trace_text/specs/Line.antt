@@ -6,7 +6,7 @@ use Rattle.trace_model.specs.declared.Action.TheVariants.{Select, Insert, Withdr
 use Rattle.trace_model.specs.declared.Item.{Item}
 use Rattle.trace_model.specs.declared.Item.TheVariants.{Run, Off, Act}
 use Rattle.trace_text.specs.declared.lines_trace.Form.{Form}
-use Rattle.trace_text.specs.declared.lines_trace.Form.TheVariants.{Minutes, UnitAlone, Whole}
+use Rattle.trace_text.specs.declared.lines_trace.Form.TheVariants.{Minutes, Whole}
 
 -- whether a place is where the day begins or where it ends
 abbrev pub ending_word : Bool → List ℕ
@@ -30,8 +30,7 @@ item_fields (Act (Place slot ending country region)) =
     codes "place" ∷ slot_name slot ∷ ending_word ending ∷ decimal country ∷ decimal region ∷ []
 item_fields (Act (Manual slot pick minute)) = codes "manual" ∷ slot_name slot ∷ pick_name pick ∷ decimal minute ∷ []
 
--- the lines that a form knows behind `start`: the form of minutes `run` and `select`, that of the unit alone `off` too,
--- and the whole form all
+-- the lines that a form knows behind `start`: the form of minutes `run` and `select`, and the whole form all
 abbrev pub knows : Form → Item → Bool
 knows Minutes (Run seconds speed) = true
 knows Minutes (Off seconds) = false
@@ -41,14 +40,6 @@ knows Minutes (Act (Withdraw slot)) = false
 knows Minutes (Act (Tear slot)) = false
 knows Minutes (Act (Place slot ending country region)) = false
 knows Minutes (Act (Manual slot pick minute)) = false
-knows UnitAlone (Run seconds speed) = true
-knows UnitAlone (Off seconds) = true
-knows UnitAlone (Act (Select slot pick)) = true
-knows UnitAlone (Act (Insert slot card)) = false
-knows UnitAlone (Act (Withdraw slot)) = false
-knows UnitAlone (Act (Tear slot)) = false
-knows UnitAlone (Act (Place slot ending country region)) = false
-knows UnitAlone (Act (Manual slot pick minute)) = false
 knows Whole (Run seconds speed) = true
 knows Whole (Off seconds) = true
 knows Whole (Act (Select slot pick)) = true

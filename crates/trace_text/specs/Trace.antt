@@ -51,10 +51,11 @@ abbrev pub waiting_from : Option ℕ → List (ℕ × Item) → Option ℕ
 waiting_from waiting [] = waiting
 waiting_from waiting (item ∷ written) = waiting_from (waits item) written
 
--- the items as far as lines are read, and at the end of the text, where a second is put in if an action waits
+-- the items of written lines as far as they are read
 abbrev pub opened : List (ℕ × Item) → List (ℕ × Item)
 opened written = open_from None written
 
+-- and at the end of the text, where a second is put in if an action waits
 abbrev pub ended : List (ℕ × Item) → List (ℕ × Item)
 ended written = opened written ++ put_in (waiting_from None written)
 

@@ -2,7 +2,8 @@
 ghost use Rattle.std.specs.Prelude.{◌≡◌, ◌≤◌, ◌+◌, ◌*◌, ℕ};
 ghost use Rattle.trace_model.specs.Trace.{total_seconds};
 ghost use Rattle.trace_text.specs.Demo.{parts_of, day_of, demo_items};
-ghost use Rattle.trace_text.specs.declared.drawn_trace.TheConstants.{PARTS, DAYS, DAY_SECONDS};
+ghost use Rattle.activity_codec.specs.declared.day.TheConstants.{DAY_SECONDS};
+ghost use Rattle.trace_text.specs.declared.drawn_trace.TheConstants.{PARTS, DAYS};
 
 /// The parts of a day leave four hours of it at least, so that each day has its seconds, and the trace those of its
 /// days.

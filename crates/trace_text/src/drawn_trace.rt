@@ -6,7 +6,7 @@ ghost use Rattle.trace_text.specs.Demo.{drawn, part_of, day_of, demo_items};
 
 use crate::drawing::{next_drawn, pick_numbered};
 use crate::{Action, Card, Item, Items, Trace};
-use activity_codec::Slot;
+use activity_codec::{DAY_SECONDS, Slot};
 use std::alloc::Global;
 use tach_media::Memory;
 
@@ -19,9 +19,6 @@ pub const DAYS: u32 = 40;
 /// So many times a day a stop, a drive and a selection.
 pub const PARTS: u32 = 8;
 
-/// A day has so many seconds.
-pub const DAY_SECONDS: u32 = 86400;
-
 /// What was put into a trace: its seconds, and the last number that was drawn for it.
 #[derive(Clone, Copy)]
 struct Drawn {
@@ -29,7 +26,7 @@ struct Drawn {
     last: u32,
 }
 
-// A stop, a drive and a selection, drawn behind this number.
+/// Adds a stop, a drive and a selection, drawn behind this number.
 fn add_part(items: &mut Items, x: u32) -> Result<Drawn, Memory>
     ensures items { IfOk result (λ part. items.new ≡ items.old ++ part_of x) }
     ensures seconds { IfOk result (λ part. part.seconds ≡ total_seconds (part_of x)) }
@@ -59,7 +56,7 @@ fn add_part(items: &mut Items, x: u32) -> Result<Drawn, Memory>
     })
 }
 
-// A day, drawn behind this number: answers the last one that was drawn.
+/// Adds a day, drawn behind this number, and answers the last one that was drawn.
 fn add_day(items: &mut Items, x: u32) -> Result<u32, Memory>
     ensures items { IfOk result (λ last. items.new ≡ items.old ++ day_of x) }
     ensures last { IfOk result (λ last. last ≡ drawn (3 * PARTS) x) }

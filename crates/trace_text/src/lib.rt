@@ -17,7 +17,7 @@ mod drawn_trace;
 
 pub use drawing::next_drawn;
 pub use drawn_laws::a_demonstration_has_its_seconds;
-pub use drawn_trace::{DAY_SECONDS, DAYS, FIRST_SECOND, PARTS, demo_trace};
+pub use drawn_trace::{DAYS, FIRST_SECOND, PARTS, demo_trace};
 pub use lines_trace::{Form, Items, Trace, TraceFault};
-pub use read::read_trace;
+pub use read::{MOST_BYTES, read_trace};
 pub use trace_model::{Action, Card, Item};

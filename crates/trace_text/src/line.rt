@@ -11,20 +11,20 @@ ghost use Rattle.trace_text.specs.Line.{IsStart, IsItem, InRange, item_fields, e
 ghost use Rattle.trace_text.specs.Text.{counts, fields};
 
 use crate::lines_trace::Form;
-use activity_codec::{Activity, Pick, Slot};
+use activity_codec::{Activity, DAY_MINUTES, Pick, Slot};
 use text_fields::{
     byte, first_piece, four_fields, is_word, number_between, one_field, three_fields, two_fields,
 };
 use trace_model::{Action, Card, Item};
 
-/// The earliest second of a trace.
+/// The earliest second of a trace, since 1970-01-01 00:00 GMT.
 pub const FIRST: u32 = 86400;
 
 /// The latest second of a trace.
 pub const LAST: u32 = 4294880895;
 
-/// The last minute of a day.
-const LAST_MINUTE: u32 = 1439;
+/// The number of a day's last minute.
+const LAST_OF_DAY: u32 = DAY_MINUTES - 1;
 
 /// The most seconds of a trace: 400 days.
 pub const MOST: u32 = 34560000;
@@ -44,9 +44,7 @@ pub fn read_start(line: &[u8]) -> Option<u32>
     ensures found { IfSome result (λ t. IsStart (fields line.now) t) }
     ensures none { IfNone result ((t : ℕ) → IsStart (fields line.now) t → ⊥) }
 {
-    let Some((word, digits)) = two_fields(line) else {
-        return None;
-    };
+    let (word, digits) = two_fields(line)?;
     if !is_word(word, b"start") {
         return None;
     }
@@ -58,9 +56,7 @@ pub fn read_item(form: Form, line: &[u8]) -> Option<Item>
     ensures found { IfSome result (λ item. IsItem form (fields line.now) item) }
     ensures none { IfNone result ((item : Each) → IsItem form (fields line.now) item → ⊥) }
 {
-    let Some(item) = read_any(line) else {
-        return None;
-    };
+    let item = read_any(line)?;
     if form.has(item) { Some(item) } else { None }
 }
 
@@ -70,9 +66,7 @@ fn read_any(line: &[u8]) -> Option<Item>
     ensures none { IfNone result ((item : Each) → fields line.now ≡ item_fields item → InRange item → ⊥) }
 {
     let (word, behind) = first_piece(line, b' ');
-    let Some(rest) = behind else {
-        return None;
-    };
+    let rest = behind?;
     if is_word(word, b"run") {
         return read_run(rest);
     }
@@ -116,15 +110,9 @@ fn read_run(rest: &[u8]) -> Option<Item>
     ensures none { IfNone result ((item : Each) → codes "run" ∷ pieces 32 rest.now ≡ item_fields item → InRange item
         → ⊥) }
 {
-    let Some((seconds, speed)) = two_fields(rest) else {
-        return None;
-    };
-    let Some(seconds) = number_between(seconds, 1, MOST) else {
-        return None;
-    };
-    let Some(speed) = byte(speed) else {
-        return None;
-    };
+    let (seconds, speed) = two_fields(rest)?;
+    let seconds = number_between(seconds, 1, MOST)?;
+    let speed = byte(speed)?;
     Some(Item::Run { seconds, speed })
 }
 
@@ -134,12 +122,8 @@ fn read_off(rest: &[u8]) -> Option<Item>
     ensures none { IfNone result ((item : Each) → codes "off" ∷ pieces 32 rest.now ≡ item_fields item → InRange item
         → ⊥) }
 {
-    let Some(seconds) = one_field(rest) else {
-        return None;
-    };
-    let Some(seconds) = number_between(seconds, 1, MOST) else {
-        return None;
-    };
+    let seconds = one_field(rest)?;
+    let seconds = number_between(seconds, 1, MOST)?;
     Some(Item::Off { seconds })
 }
 
@@ -149,15 +133,9 @@ fn read_select(rest: &[u8]) -> Option<Item>
     ensures none { IfNone result ((item : Each) → codes "select" ∷ pieces 32 rest.now ≡ item_fields item → InRange item
         → ⊥) }
 {
-    let Some((slot, pick)) = two_fields(rest) else {
-        return None;
-    };
-    let Some(slot) = read_slot(slot) else {
-        return None;
-    };
-    let Some(pick) = read_pick(pick) else {
-        return None;
-    };
+    let (slot, pick) = two_fields(rest)?;
+    let slot = read_slot(slot)?;
+    let pick = read_pick(pick)?;
     Some(Item::Act(Action::Select { slot, pick }))
 }
 
@@ -167,15 +145,9 @@ fn read_insert(rest: &[u8]) -> Option<Item>
     ensures none { IfNone result ((item : Each) → codes "insert" ∷ pieces 32 rest.now ≡ item_fields item → InRange item
         → ⊥) }
 {
-    let Some((slot, card)) = two_fields(rest) else {
-        return None;
-    };
-    let Some(slot) = read_slot(slot) else {
-        return None;
-    };
-    let Some(card) = read_card(card) else {
-        return None;
-    };
+    let (slot, card) = two_fields(rest)?;
+    let slot = read_slot(slot)?;
+    let card = read_card(card)?;
     Some(Item::Act(Action::Insert { slot, card }))
 }
 
@@ -185,12 +157,8 @@ fn read_withdraw(rest: &[u8]) -> Option<Item>
     ensures none { IfNone result ((item : Each) → codes "withdraw" ∷ pieces 32 rest.now ≡ item_fields item
         → InRange item → ⊥) }
 {
-    let Some(slot) = one_field(rest) else {
-        return None;
-    };
-    let Some(slot) = read_slot(slot) else {
-        return None;
-    };
+    let slot = one_field(rest)?;
+    let slot = read_slot(slot)?;
     Some(Item::Act(Action::Withdraw { slot }))
 }
 
@@ -200,12 +168,8 @@ fn read_tear(rest: &[u8]) -> Option<Item>
     ensures none { IfNone result ((item : Each) → codes "tear" ∷ pieces 32 rest.now ≡ item_fields item → InRange item
         → ⊥) }
 {
-    let Some(slot) = one_field(rest) else {
-        return None;
-    };
-    let Some(slot) = read_slot(slot) else {
-        return None;
-    };
+    let slot = one_field(rest)?;
+    let slot = read_slot(slot)?;
     Some(Item::Act(Action::Tear { slot }))
 }
 
@@ -215,21 +179,11 @@ fn read_place(rest: &[u8]) -> Option<Item>
     ensures none { IfNone result ((item : Each) → codes "place" ∷ pieces 32 rest.now ≡ item_fields item → InRange item
         → ⊥) }
 {
-    let Some((slot, ending, country, region)) = four_fields(rest) else {
-        return None;
-    };
-    let Some(slot) = read_slot(slot) else {
-        return None;
-    };
-    let Some(ending) = read_ending(ending) else {
-        return None;
-    };
-    let Some(country) = byte(country) else {
-        return None;
-    };
-    let Some(region) = byte(region) else {
-        return None;
-    };
+    let (slot, ending, country, region) = four_fields(rest)?;
+    let slot = read_slot(slot)?;
+    let ending = read_ending(ending)?;
+    let country = byte(country)?;
+    let region = byte(region)?;
     Some(Item::Act(Action::Place {
         slot,
         ending,
@@ -244,18 +198,10 @@ fn read_manual(rest: &[u8]) -> Option<Item>
     ensures none { IfNone result ((item : Each) → codes "manual" ∷ pieces 32 rest.now ≡ item_fields item → InRange item
         → ⊥) }
 {
-    let Some((slot, pick, minute)) = three_fields(rest) else {
-        return None;
-    };
-    let Some(slot) = read_slot(slot) else {
-        return None;
-    };
-    let Some(pick) = read_pick(pick) else {
-        return None;
-    };
-    let Some(minute) = number_between(minute, 0, LAST_MINUTE) else {
-        return None;
-    };
+    let (slot, pick, minute) = three_fields(rest)?;
+    let slot = read_slot(slot)?;
+    let pick = read_pick(pick)?;
+    let minute = number_between(minute, 0, LAST_OF_DAY)?;
     Some(Item::Act(Action::Manual {
         slot,
         pick,
@@ -263,6 +209,7 @@ fn read_manual(rest: &[u8]) -> Option<Item>
     }))
 }
 
+/// The slot of this name.
 fn read_slot(word: &[u8]) -> Option<Slot>
     ensures found { IfSome result (λ slot. word.now ≡ slot_name slot) }
     ensures none { IfNone result ((slot : EachSlot) → word.now ≡ slot_name slot → ⊥) }
@@ -276,6 +223,7 @@ fn read_slot(word: &[u8]) -> Option<Slot>
     None
 }
 
+/// The selection of this name.
 fn read_pick(word: &[u8]) -> Option<Pick>
     ensures found { IfSome result (λ pick. word.now ≡ pick_name pick) }
     ensures none { IfNone result ((pick : EachPick) → word.now ≡ pick_name pick → ⊥) }
@@ -292,6 +240,7 @@ fn read_pick(word: &[u8]) -> Option<Pick>
     None
 }
 
+/// The card of this name.
 fn read_card(word: &[u8]) -> Option<Card>
     ensures found { IfSome result (λ card. word.now ≡ card_name card) }
     ensures none { IfNone result ((card : EachCard) → word.now ≡ card_name card → ⊥) }

@@ -12,8 +12,6 @@ use trace_model::{Action, Item};
 pub enum Form {
     /// `run` and `select`.
     Minutes,
-    /// What a run without cards can have: `run`, `off` and `select`.
-    UnitAlone,
     /// All that a run can have: `run`, `off` and all actions.
     Whole,
 }
@@ -28,9 +26,6 @@ impl Form {
             (Form::Whole, Item::Act(_)) => true,
             (Form::Minutes, Item::Run { .. } | Item::Act(Action::Select { .. })) => true,
             (Form::Minutes, Item::Off { .. } | Item::Act(_)) => false,
-            (Form::UnitAlone, Item::Run { .. } | Item::Off { .. }) => true,
-            (Form::UnitAlone, Item::Act(Action::Select { .. })) => true,
-            (Form::UnitAlone, Item::Act(_)) => false,
         }
     }
 }
@@ -61,6 +56,10 @@ impl Items {
     }
 
     /// Adds an item at the end.
+    ///
+    /// # Errors
+    ///
+    /// `Memory` where there is none; the list stays as it was.
     pub fn push(&mut self, item: Item) -> Result<(), Memory>
         ensures ok { OnOk result (self.new ≡ self.old ++ item ∷ []) }
         ensures err { OnErr result (self.new ≡ self.old) }
@@ -115,4 +114,15 @@ pub enum TraceFault {
     TooLong(u32),
     /// Out of memory.
     Memory,
+}
+
+impl From<Memory> for TraceFault {
+    ghost use Rattle.std.specs.Prelude.{◌≡◌};
+    ghost use Rattle.trace_text.specs.declared.lines_trace.TraceFault.{TraceFault};
+
+    ghost from_gives = { λ _ fault. fault ≡ TraceFault.Memory };
+
+    fn from(_memory: Memory) -> TraceFault {
+        TraceFault::Memory
+    }
 }

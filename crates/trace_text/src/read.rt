@@ -15,10 +15,16 @@ use std::alloc::Global;
 use tach_media::{Source, TakeFault, take_all};
 use text_fields::first_piece;
 
-/// The most bytes of a source.
-const MOST_BYTES: u32 = 16777216;
+/// The most bytes that the program reads of a source which it reads to its end.
+pub const MOST_BYTES: u32 = 16777216;
 
 /// Reads a trace of this form to the source's end.
+///
+/// # Errors
+///
+/// `ReadFault` where the source failed; `BadLine` with the first line outside the grammar, the line behind the last one
+/// where none counts; `TooLong` with the line at which a limit is passed first, 0 where the source has more than
+/// 16777216 bytes; `Memory`. Of a bad line and a passed limit the earlier one is told.
 #[tactic(auto, unfolding(crate::specs::Judged::IsTraceText, crate::specs::Judged::IsBadText, crate::specs::Judged::IsLongText))]
 pub fn read_trace<S: Source>(alloc: Global, source: &mut S, form: Form) -> Result<Trace, TraceFault>
     // What is read is the trace that the source told, and nothing of the source is left.

@@ -56,6 +56,11 @@ impl Reading {
     }
 
     /// Reads one more line.
+    ///
+    /// # Errors
+    ///
+    /// `BadLine` with the line's number where it is not in the grammar, `TooLong` where a limit is passed at it or at
+    /// the line of an action before it, and `Memory`.
     pub fn take(&mut self, line: &[u8]) -> Result<(), TraceFault>
         requires { self.old.lines < 2 ^ 32 - 1 }
         ensures ok { (lines : List (List ℕ)) → HasRead lines self.old
@@ -127,15 +132,17 @@ impl Reading {
         ensures lines { OnOk result (self.new.lines ≡ self.old.lines + 1) }
     {
         let number = self.lines + 1;
-        if let Err(fault) = self.append(start, number, item) {
-            return Err(fault);
-        }
+        self.append(start, number, item)?;
         self.waiting = waits_behind(item, number);
         self.lines = number;
         Ok(())
     }
 
-    /// Takes the `run` line of these seconds at this speed.
+    /// Takes the `run` line of these seconds at this speed, in km/h.
+    ///
+    /// # Errors
+    ///
+    /// `TooLong` with the line's number where a limit is passed at it, and `Memory`.
     pub fn take_run(&mut self, start: u32, seconds: u32, speed: u8) -> Result<(), TraceFault>
         requires lines { self.old.lines < 2 ^ 32 - 1 }
         requires later { self.old.start ≡ Second start }
@@ -148,9 +155,7 @@ impl Reading {
         ensures lines { OnOk result (self.new.lines ≡ self.old.lines + 1) }
     {
         let line = self.lines + 1;
-        if let Err(fault) = self.add(start, line, Item::Run { seconds, speed }) {
-            return Err(fault);
-        }
+        self.add(start, line, Item::Run { seconds, speed })?;
         self.waiting = None;
         self.lines = line;
         Ok(())
@@ -167,9 +172,7 @@ impl Reading {
         ensures start { self.new.start ≡ self.old.start }
     {
         if let Item::Off { .. } = item {
-            if let Err(fault) = self.put_in(start) {
-                return Err(fault);
-            }
+            self.put_in(start)?;
         }
         self.add(start, line, item)
     }
@@ -204,15 +207,18 @@ impl Reading {
         if !fits(start, self.total, seconds) {
             return Err(TraceFault::TooLong(line));
         }
-        let Ok(()) = self.items.push(item) else {
-            return Err(TraceFault::Memory);
-        };
+        self.items.push(item)?;
         self.total += seconds;
         Ok(())
     }
 
     /// The trace of the lines that were read, with the second that is put in where no run follows the actions at the
     /// end.
+    ///
+    /// # Errors
+    ///
+    /// `BadLine` with the number behind the last line where no `start` line was read, `TooLong` with the line of the
+    /// last action where a limit is passed by the second that is put in, and `Memory`.
     pub fn finish(mut self) -> Result<Trace, TraceFault>
         requires { self.lines < 2 ^ 32 - 1 }
         ensures { (lines : List (List ℕ)) → HasRead lines self
@@ -222,9 +228,7 @@ impl Reading {
         let Some(start) = self.start else {
             return Err(TraceFault::BadLine(after_last));
         };
-        if let Err(fault) = self.put_in(start) {
-            return Err(fault);
-        }
+        self.put_in(start)?;
         let Reading { items, .. } = self;
         Ok(Trace { start, items })
     }

@@ -23,22 +23,16 @@ pub fn first_run(text: &[u8]) -> Option<(u32, u8, &[u8])>
     ensures range { IfSome result (λ r. InRange (Run r.0 r.1)) }
     ensures shorter { IfSome result (λ r. length r.2.now < length text.now) }
 {
-    let Some(digits) = behind_run(text) else {
-        return None;
-    };
-    let Some((seconds, behind)) = first_number(digits, b' ') else {
-        return None;
-    };
-    let Some((speed, rest)) = first_number(behind, b'\n') else {
-        return None;
-    };
+    let digits = behind_run(text)?;
+    let (seconds, behind) = first_number(digits, b' ')?;
+    let (speed, rest) = first_number(behind, b'\n')?;
     if seconds < 1 || seconds > MOST || speed > FASTEST {
         return None;
     }
     Some((seconds, speed as u8, rest))
 }
 
-// What is behind `run` and a space.
+/// What is behind `run` and a space.
 fn behind_run(text: &[u8]) -> Option<&[u8]>
     ensures { IfSome result (λ rest. text.now ≡ codes "run " ++ rest.now) }
 {
@@ -52,7 +46,7 @@ fn behind_run(text: &[u8]) -> Option<&[u8]>
     }
 }
 
-// The number at the head of a text, and what is behind the separator that follows its digits.
+/// The number at the head of a text, and what is behind the separator that follows its digits.
 fn first_number(text: &[u8], separator: u8) -> Option<(u32, &[u8])>
     ensures { IfSome result (λ f. text.now ≡ decimal f.0 ++ separator ∷ f.1.now) }
 {
@@ -76,7 +70,7 @@ fn first_number(text: &[u8], separator: u8) -> Option<(u32, &[u8])>
     None
 }
 
-// Whether there are digits, and no zero stands at their head but that of 0.
+/// Whether there are digits, and no zero stands at their head but that of 0.
 fn is_numeral(digits: &[u8]) -> bool
     ensures some { IsTrue result → 0 < length digits.now }
     ensures head { IsTrue result → slice_index digits.now 0 ≡ 48 → length digits.now ≡ 1 }

@@ -4,7 +4,8 @@ use Rattle.std.specs.Prelude.{◌⊎◌, ◌||◌}
 use Rattle.link_model.specs.declared.request.Request.{Request}
 use Rattle.link_model.specs.declared.request.Request.TheVariants.{Overview}
 use Rattle.link_model.specs.Frames.{Right}
-use Rattle.link_model.specs.Answers.{LinkState, Reply, answers, answered, upload_request}
+use Rattle.link_model.specs.declared.services.TheConstants.{UPLOAD_REQUEST}
+use Rattle.link_model.specs.Answers.{LinkState, Reply, answers, answered}
 use Rattle.link_model.specs.Answers as states
 use Rattle.message_model.specs.Sending.{content_sent}
 use Rattle.link_frames.specs.Asking.{asks_unit}
@@ -96,14 +97,14 @@ module _ (image : Option (List ℕ)) (sent : List ℕ) (reply : Reply) where
         none = refl;
       }
 
-  at_upload : Some upload_request ≡ Some sent → Replies image states.Diagnostic sent reply → Opened uploading reply
+  at_upload : Some UPLOAD_REQUEST ≡ Some sent → Replies image states.Diagnostic sent reply → Opened uploading reply
   at_upload sends replies =
-      let same = one_sent upload_request sent sends in
+      let same = one_sent UPLOAD_REQUEST sent sends in
       record {
         frame = 0x75 ∷ 0x00 ∷ 0xFF ∷ [];
         next = states.Upload;
         loader = at_stage 0 (Asked Overview);
-        reply_is = replied image states.Diagnostic upload_request reply (answers (0x75 ∷ 0x00 ∷ 0xFF ∷ []) states.Upload) (subst (λ (s : List ℕ). Replies image states.Diagnostic s reply) (sym same) replies) (λ messages. refl);
+        reply_is = replied image states.Diagnostic UPLOAD_REQUEST reply (answers (0x75 ∷ 0x00 ∷ 0xFF ∷ []) states.Upload) (subst (λ (s : List ℕ). Replies image states.Diagnostic s reply) (sym same) replies) (λ messages. refl);
         agreed = refl;
         goes = refl;
         begins = inr refl;

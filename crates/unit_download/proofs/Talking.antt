@@ -26,7 +26,7 @@ use Rattle.unit_download.specs.declared.fault.DownloadFault.{DownloadFault}
 use Rattle.unit_download.specs.declared.fault.DownloadFault.TheVariants.{Changed, Memory}
 use Rattle.unit_download.specs.Wires.{of_loader, of_unit, talk_of, Replies, Exchanged, Runs}
 use Rattle.unit_download.specs.Tapes.{HasFrames}
-use Rattle.unit_download.specs.Ending.{IsUnanswered, IsUntaken, StopsAt, IsDownload}
+use Rattle.unit_download.specs.Ending.{IsUnanswered, IsUntaken, StopsAt, IsDownload, IsDownloaded}
 use Rattle.unit_download.proofs.Linked.{runs_on}
 use Rattle.unit_download.proofs.Opening.{Opens, Begins, begins_next, asks_there, judged_next}
 use Rattle.unit_download.proofs.ToldUnit.{Sized, untold, whole_told, front_told, front_untaken, long_told}
@@ -220,5 +220,5 @@ nothing_began {T} r image held wire is none =
     })
 
 -- A tape that tells its frames has those of the download.
-pub told_download : {T : Type 0} (r : Result T DownloadFault) (image : Option (List ℕ)) (wire passed : List Passed) (held sunk : Option (List ℕ)) → HasFrames (Some wire) passed → IsDownload r image passed held sunk → IsDownload r image wire held sunk
-told_download r image wire passed held sunk has is = subst (λ (l : List Passed). IsDownload r image l held sunk) (sym has) is
+pub told_download : (r : Result (Unit {0}) DownloadFault) (image : Option (List ℕ)) (wire passed : List Passed) (held sunk : Option (List ℕ)) → HasFrames (Some wire) passed → IsDownloaded r image passed held sunk → IsDownloaded r image wire held sunk
+told_download r image wire passed held sunk has is = subst (λ (l : List Passed). IsDownloaded r image l held sunk) (sym has) is

@@ -1,6 +1,6 @@
 -- How a download ends.
 use Rattle.std.specs.Prelude.{◌≡◌, ◌⊎◌, ℕ, ◌<◌, Bool, true, false, List, [], ◌∷◌, ◌++◌, length, Option, Some, None}
-use Rattle.std.specs.Prelude.{◌≤◌, ◌^◌, IfSome, Result, Ok, Err, IsErrOf, OnOk, IfErr}
+use Rattle.std.specs.Prelude.{◌≤◌, ◌^◌, IfSome, Result, Ok, Err, IsErrOf, OnOk, OnErr, IfErr}
 use Rattle.std.specs.Io.KnownBytes.{Appends, Keeps}
 use Rattle.tach_media.specs.Medium.{Rose}
 use Rattle.tach_media.specs.Streams.{AppendsFront}
@@ -9,6 +9,7 @@ use Rattle.link_model.specs.declared.request.Request.{Request}
 use Rattle.link_model.specs.Frames.{Right}
 use Rattle.link_model.specs.Answers.{LinkState}
 use Rattle.message_model.specs.Messages.{Message, message_bytes}
+use Rattle.message_model.specs.Sending.{unit_file}
 use Rattle.unit_model.specs.Decoding.{Decodes, first_bad_place}
 use Rattle.unit_messages.specs.declared.joining.TheConstants.{LONGEST}
 use Rattle.link_frames.specs.Asking.{asks_unit}
@@ -114,6 +115,21 @@ pub record IsDownload {T : Type 0} (result : Result T DownloadFault) (image : Op
   pub put : Appends held mid talk.out
   pub ends : Ends result image talk behind mid sunk
 
+-- WHAT A DOWNLOAD LEAVES of this wire and sink, over a unit that tells this image, or none; over whatever link.
+pub record IsDownloaded (r : Result (Unit {0}) DownloadFault) (image : Option (List ℕ)) (wire : List Passed)
+    (held sunk : Option (List ℕ)) : Type 0 where
+  -- the wire is a run of the tables of both sides, up to where the download ended; and what they put out has gone to
+  -- the sink
+  pub downloaded : IsDownload r image wire held sunk
+  -- at the end the image decodes, and the sink has its file; else a front of it
+  pub file : OnOk r (IfSome image (λ x. Decodes x × Appends held sunk (unit_file x)))
+  pub front : OnErr r (IfSome image (λ x. AppendsFront held sunk (unit_file x)))
+  -- no unit that tells its image gives no answer, or one that the loader refuses
+  pub changed : IsErrOf r Changed → IfSome image (λ x. ⊥)
+  -- a unit is bad at the first place of its image that fails, and nothing went to the sink
+  pub bad : IfErr r (λ fault. IfBad fault (λ p. IfSome image (λ x. first_bad_place x ≡ Some p)))
+  pub nothing : IfErr r (λ fault. IfBad fault (λ p. Keeps held sunk))
+
 -- ---- what a call of a download says of its failures, and of the wire
 
 -- FAILURES OF THE SINK ARE COUNTED: no count falls, and where it could not be written it rose
@@ -126,9 +142,10 @@ pub record CountsFrames {A : Type 0} (result : Result A DownloadFault) (before a
   pub more : OnOk result (before < after)
   pub few : OnOk result (before < 2 ^ 64)
 
--- A UNIT IS JUDGED: one that was asked, and gives no answer, decodes; a bad one is bad at this place, and was not judged
--- before
-pub record JudgesUnit {A : Type 0} (result : Result A DownloadFault) (asked judged : Bool) (image : Option (List ℕ)) : Type 0 where
+-- A UNIT IS JUDGED: one that was asked, and gives no answer, decodes; a bad one is bad at this place, and was not
+-- judged before
+pub record JudgesUnit {A : Type 0} (result : Result A DownloadFault) (asked judged : Bool)
+    (image : Option (List ℕ)) : Type 0 where
   pub found : IsErrOf result Changed → asked ≡ true → IfSome image Decodes
   pub bad : IfErr result (λ fault. IfBad fault (λ p. (judged ≡ false)
       × IfSome image (λ x. first_bad_place x ≡ Some p)))

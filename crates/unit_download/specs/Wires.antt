@@ -14,6 +14,7 @@ use Rattle.unit_download.specs.declared.wire.Passed.{Passed}
 abbrev pub of_loader : List ℕ → Passed
 of_loader frame = record { from = side.Loader; frame = frame }
 
+-- a frame of the unit
 abbrev pub of_unit : List ℕ → Passed
 of_unit frame = record { from = side.Unit; frame = frame }
 

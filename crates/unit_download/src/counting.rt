@@ -22,7 +22,7 @@ pub fn day_count(b: &[u8]) -> usize
     days
 }
 
-// How many of one message: 1 of what answers the request for a day.
+/// How many of one message: 1 of what answers the request for a day.
 fn days_in(request: Request) -> usize
     ensures { result ≡ days_in request }
 {

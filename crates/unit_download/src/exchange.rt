@@ -92,7 +92,7 @@ pub fn take<K: Sink>(
     }
 }
 
-// A frame with the same data.
+/// A frame with the same data.
 fn copy_of(frame: &Frame) -> Frame
     ensures { result ≡ frame.now }
 {

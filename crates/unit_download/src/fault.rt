@@ -1,3 +1,4 @@
+//! Why a download ends before it is finished.
 use link_session::AnswerFault;
 use tach_media::Memory;
 
@@ -12,6 +13,7 @@ pub enum DownloadFault {
     Changed,
     /// The sink failed.
     WriteFault,
+    /// Memory ran out: for the room of a message, for a piece, or for the wire.
     Memory,
 }
 

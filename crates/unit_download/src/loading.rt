@@ -1,16 +1,12 @@
+//! A unit downloaded: loader and unit against each other, exchange by exchange.
 ghost use Rattle.unit_model.specs.Image.{IsUnit};
-ghost use Rattle.std.specs.Prelude.{◌≡◌, ◌≤◌, [], List, OnOk, IfErr, OnErr, IfSome, IsErrOf, Some};
-ghost use Rattle.std.specs.Io.KnownBytes.{Appends, Keeps};
-ghost use Rattle.tach_media.specs.Streams.{AppendsFront};
-ghost use Rattle.message_model.specs.Sending.{unit_file};
-ghost use Rattle.unit_model.specs.Decoding.{Decodes, first_bad_place};
+ghost use Rattle.std.specs.Prelude.{◌≡◌, ◌≤◌, [], List};
 ghost use Rattle.unit_minutes.specs.Reading.{ReadsIfAny};
-ghost use Rattle.unit_download.specs.declared.fault.DownloadFault.{DownloadFault};
 ghost use Rattle.unit_messages.specs.declared.joining.TheConstants.{LONGEST};
 ghost use Rattle.link_loader.specs.Loading.{begun};
 ghost use Rattle.unit_download.specs.declared.wire.Passed.{Passed};
 ghost use Rattle.unit_download.specs.Tapes.{HasFrames};
-ghost use Rattle.unit_download.specs.Ending.{CountsFailures, IfBad, has_failed, IsDownload};
+ghost use Rattle.unit_download.specs.Ending.{CountsFailures, has_failed, IsDownloaded};
 
 use crate::exchange::{answer_to, take};
 use crate::fault::DownloadFault;
@@ -40,20 +36,9 @@ pub fn download<K: Sink, U: Medium>(
 ) -> Result<(), DownloadFault>
     requires unit { IsUnit (U.state unit.old) }
     requires fresh { wire.old ≡ [] }
-    // The wire is a run of the tables of both sides, up to where the download ended; and what they put out has gone to
-    // the sink.
-    ensures downloaded { IsDownload result (U.state unit.old).image wire.new (K.held sink.old) (K.held sink.new) }
-    // At the end the image decodes, and the sink has its file.
-    ensures file { OnOk result (IfSome (U.state unit.old).image
-        (λ x. Decodes x × Appends (K.held sink.old) (K.held sink.new) (unit_file x))) }
-    // Else a front of it.
-    ensures front { OnErr result (IfSome (U.state unit.old).image
-        (λ x. AppendsFront (K.held sink.old) (K.held sink.new) (unit_file x))) }
-    // No unit that tells its image gives no answer, or one that the loader refuses.
-    ensures changed { IsErrOf result DownloadFault.Changed → IfSome (U.state unit.old).image (λ x. ⊥) }
-    ensures bad { IfErr result (λ fault. IfBad fault (λ p. IfSome (U.state unit.old).image
-        (λ x. first_bad_place x ≡ Some p))) }
-    ensures nothing { IfErr result (λ fault. IfBad fault (λ p. Keeps (K.held sink.old) (K.held sink.new))) }
+    // The wire is a run of the tables of both sides, up to where the download ended; what they put out has gone to the
+    // sink, which has the unit's file at the end, and else a front of it.
+    ensures downloaded { IsDownloaded result (U.state unit.old).image wire.new (K.held sink.old) (K.held sink.new) }
     ensures faults { CountsFailures result (K.faults sink.old) (K.faults sink.new) }
     // The unit is only read, if it is called at all.
     ensures unit { ReadsIfAny (U.state unit.old) (U.state unit.new) (has_failed result) }
@@ -80,21 +65,10 @@ pub fn exchange_all<K: Sink, U: Medium, T: Tape>(
     requires begun { loader.old.loading ≡ begun }
     requires room { LONGEST ≤ loader.old.room }
     requires fresh { HasFrames (T.frames wire.old) [] }
-    // The wire is a run of the tables of both sides, up to where the download ended; and what they put out has gone to
-    // the sink.
+    // The wire is a run of the tables of both sides, up to where the download ended; what they put out has gone to the
+    // sink, which has the unit's file at the end, and else a front of it.
     ensures downloaded { (passed : List Passed) × HasFrames (T.frames wire.new) passed
-        × IsDownload result (U.state unit.old).image passed (K.held sink.old) (K.held sink.new) }
-    // At the end the image decodes, and the sink has its file.
-    ensures file { OnOk result (IfSome (U.state unit.old).image
-        (λ x. Decodes x × Appends (K.held sink.old) (K.held sink.new) (unit_file x))) }
-    // Else a front of it.
-    ensures front { OnErr result (IfSome (U.state unit.old).image
-        (λ x. AppendsFront (K.held sink.old) (K.held sink.new) (unit_file x))) }
-    // No unit that tells its image gives no answer, or one that the loader refuses.
-    ensures changed { IsErrOf result DownloadFault.Changed → IfSome (U.state unit.old).image (λ x. ⊥) }
-    ensures bad { IfErr result (λ fault. IfBad fault (λ p. IfSome (U.state unit.old).image
-        (λ x. first_bad_place x ≡ Some p))) }
-    ensures nothing { IfErr result (λ fault. IfBad fault (λ p. Keeps (K.held sink.old) (K.held sink.new))) }
+        × IsDownloaded result (U.state unit.old).image passed (K.held sink.old) (K.held sink.new) }
     ensures faults { CountsFailures result (K.faults sink.old) (K.faults sink.new) }
     // The unit is only read, if it is called at all.
     ensures unit { ReadsIfAny (U.state unit.old) (U.state unit.new) (has_failed result) }

@@ -14,10 +14,12 @@ use crate::{DownloadFault, Unlisted, exchange_all};
 use link_loader::Downloader;
 use tach_media::{Medium, MemSink};
 
-/// How many bytes a unit's file has, and how many messages of a day.
+/// The size of a unit's file.
 #[derive(Clone, Copy, Debug, PartialEq, Eq)]
 pub struct FileSize {
+    /// How many bytes it has.
     pub bytes: usize,
+    /// How many of its messages are of a day.
     pub days: usize,
 }
 
@@ -44,9 +46,7 @@ pub fn measure<U: Medium>(
 {
     U::holds_bytes(unit);
     let mut tape = Unlisted::new();
-    if let Err(fault) = exchange_all(loader, file, unit, &mut tape) {
-        return Err(fault);
-    }
+    exchange_all(loader, file, unit, &mut tape)?;
     let bytes = file.held();
     Ok(FileSize {
         bytes: bytes.len(),

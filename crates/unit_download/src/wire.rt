@@ -10,7 +10,9 @@ use tach_media::Memory;
 /// A frame that passed, with its sender.
 #[derive(Drop)]
 pub struct Passed {
+    /// The side that sent it.
     pub from: End,
+    /// Its data.
     pub frame: Frame,
 }
 

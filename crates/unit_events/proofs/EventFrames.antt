@@ -1,19 +1,17 @@
 -- Which bytes tell of which events: the places of a type, and writes of the journal.
 use Rattle.std.proofs.Common.{◌≡◌, ◌⊎◌, ⊎_elim, ℕ, ◌+◌, ◌-◌, ◌<◌, ◌≤◌, List, take, drop, Contains, ap, sym, ◌∙◌, arith}
 use Rattle.std.proofs.lemmas.List.{drop-drop}
-use Rattle.card_layout.specs.Images.{SameOutside, bytes_at, big_number}
+use Rattle.card_layout.specs.Images.{SameOutside, bytes_at}
 use Rattle.card_layout.proofs.Images.{part_before, part_after, part_in}
 use Rattle.gated_ring.specs.Ring.{Shape, size_of, place_of, entry_at}
 use Rattle.gated_ring.proofs.Places.{place_low, place_high}
 use Rattle.unit_model.proofs.Growth.{map_range_same}
-use Rattle.log_model.specs.Log.{RunLog}
 use Rattle.event_model.specs.Kinds.{places_of}
 use Rattle.note_model.specs.Tables.{table_of, table_in}
 use Rattle.unit_minutes.specs.Image.{SameBesides}
 use Rattle.unit_minutes.specs.Mends.{SameButRowsAndSlots}
-use Rattle.unit_events.specs.Noted.{Lists, no_events}
-use Rattle.unit_events.specs.Shown.{all_kinds, ShowsMore, KeepsEvents}
-use Rattle.unit_events.proofs.Shows.{each-kind, same-more}
+use Rattle.unit_events.specs.Shown.{all_kinds, KeepsEvents}
+use Rattle.unit_events.proofs.Shows.{each-kind}
 
 pub le-then : (a b c : ℕ) → a ≤ b → b ≤ c → a ≤ c
 le-then a b c first next = omega (arith, first, next)
@@ -83,8 +81,3 @@ take-less x c same = part_of 0 624 572 8 x c (omega arith) same
 
 pub slots-keeps : (x c : List ℕ) → SameButRowsAndSlots x c → KeepsEvents x c
 slots-keeps x c same = record { numbers = take-less x c same.before; rest = same.after }
-
-pub keeps-more : (later : RunLog) (now : Lists) (x c : List ℕ) → KeepsEvents x c → ShowsMore later now no_events x c
-keeps-more later now x c same =
-    same-more later now x c (λ kind there sure. table-behind kind there x c same.rest)
-    (λ sure. (ap (big_number 4) (part_of 572 8 0 4 x c (omega arith) same.numbers), ap (big_number 4) (part_of 572 8 4 4 x c (omega arith) same.numbers)))

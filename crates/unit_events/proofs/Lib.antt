@@ -1,13 +1,8 @@
 pub mod Bridge
 pub mod Failing
-pub mod Grown
-pub mod Knowing
-pub mod Steps
-pub mod Breaking
 pub mod Late
 pub mod Shows
 pub mod EventFrames
-pub mod Ending
 pub mod Rows
 pub mod NoteFrames
 pub mod Calling

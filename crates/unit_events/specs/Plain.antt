@@ -28,16 +28,19 @@ driver_second t = record { number = t.second.number; bare = nat_lt 0 t.second.sp
 abbrev pub speed_second : ToldSecond → SpeedSecond
 speed_second t = record { number = t.second.number; speed = t.second.speed }
 
+-- so of each second of a span
 abbrev pub driver_seconds : List ToldSecond → List DriverSecond
 driver_seconds span = map driver_second span
 
+-- each second of a span with its speed
 abbrev pub speed_seconds : List ToldSecond → List SpeedSecond
 speed_seconds span = map speed_second span
 
--- a run without a card, an over speeding and an interruption as events
+-- driving without a card from one second to another as an event
 abbrev pub bare_event : Span → Event
 bare_event s = noted_with DRIVING_WITHOUT_CARD s.begin s.end nobody
 
+-- an over speeding as an event
 abbrev pub over_event : Over → Event
 over_event o = record {
   kind = OVER_SPEEDING;
@@ -49,13 +52,15 @@ over_event o = record {
   at_end = nobody;
 }
 
+-- an interruption of power as an event
 abbrev pub gap_event : Span → Event
 gap_event s = noted_with POWER_INTERRUPTION s.begin s.end nobody
 
--- those that have ended in a span
+-- driving without a card that has ended in a span
 abbrev pub bares_in : List ToldSecond → List Event
 bares_in span = map bare_event (bares_of (driver_seconds span))
 
+-- the over speedings that have ended in a span, by the limit in km/h
 abbrev pub overs_in : (limit : ℕ) → List ToldSecond → List Event
 overs_in limit span = map over_event (overs_of limit (speed_seconds span))
 
@@ -86,17 +91,6 @@ abbrev pub gaps_in : RunLog → List (List ToldSecond) → List Event
 gaps_in log [] = []
 gaps_in log (span ∷ []) = []
 gaps_in log (span ∷ next ∷ spans) = gap_between log span next ++ gaps_in log (next ∷ spans)
-
--- the one behind the last of these spans and before a second
-abbrev pub gap_behind : RunLog → List (List ToldSecond) → (now : ℕ) → List Event
-gap_behind log [] now = []
-gap_behind log (span ∷ []) now = gap_since log span now
-gap_behind log (span ∷ next ∷ spans) now = gap_behind log (next ∷ spans) now
-
--- the one before a power-on that found this minute kept: none before the first one, which no break comes before
-abbrev pub gap_found : List Break → (kept now : ℕ) → List Event
-gap_found [] kept now = []
-gap_found (b ∷ breaks) kept now = gap_to kept now
 
 -- the events of a type in these spans
 abbrev pub plain_events : (kind limit : ℕ) → RunLog → List (List ToldSecond) → List Event

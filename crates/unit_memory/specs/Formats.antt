@@ -4,6 +4,10 @@ use Rattle.tach_media.specs.Medium.{put}
 use Rattle.unit_model.specs.declared.layout.TheConstants.{VERSION, VIN, REGISTRATION, SPEED_LIMIT}
 use Rattle.unit_model.specs.Image.{number_of}
 
+-- the most writes that it begins: five small ones, and 17 for each of 607 chunks of 4096 zeros
+abbrev pub format_most : ℕ
+format_most = 10324
+
 -- an image of the same size whose version is 0
 pub record IsBlank (x c : List ℕ) : Type 0 where
   pub same_length : length c ≡ length x

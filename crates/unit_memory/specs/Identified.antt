@@ -6,6 +6,7 @@ use Rattle.unit_model.specs.Versions.{version_of, rule_byte_of}
 use Rattle.unit_memory.specs.declared.format.Identity.{Identity}
 use Rattle.unit_memory.specs.declared.memory.UnitFacts.{UnitFacts}
 
+-- the identity that an image tells: the number, the registration, and the speed limit in km/h
 pub record IsIdentity (i : Identity) (image : List ℕ) : Type 0 where
   pub vin : i.vin ≡ bytes_at image VIN.place VIN.size
   pub registration : i.registration.0 ≡ bytes_at image REGISTRATION.place REGISTRATION.size

@@ -28,6 +28,7 @@ front_of version rule kept has_today odometer overs =
     ∷ check OVER_COUNT.place (nat_le overs MOST_OVERS)
     ∷ []
 
+-- and by those of an image
 abbrev pub front_by : (kept : ℕ) → (has_today : Bool) → List ℕ → List Check
 front_by kept has_today image = front_of (number_of image VERSION) (number_of image RULE_BYTE) kept has_today
     (odometer_at image) (number_of image OVER_COUNT)
@@ -59,7 +60,7 @@ day_front place passes odometer count =
     ∷ check (place + DAY_COUNT.place) (nat_le 2 count && nat_le count DAY_WORD_LIMIT)
     ∷ []
 
--- what stands in front of a slot's words, in the slot's bytes and in an image
+-- what stands in front of a slot's words, by the slot's bytes
 abbrev pub head_in : List ℕ → Head
 head_in bytes = record {
   date = number_of bytes DAY_DATE;
@@ -67,6 +68,7 @@ head_in bytes = record {
   count = number_of bytes DAY_COUNT;
 }
 
+-- and in front of those of the slot of an index in an image
 abbrev pub head_at : List ℕ → ℕ → Head
 head_at image i = record { date = slot_date image i; odometer = slot_odometer image i; count = slot_count image i }
 
@@ -80,6 +82,7 @@ day_checks_by kept latest head image i =
 abbrev pub slot_checks_of : (kept latest : ℕ) → Head → List ℕ → ℕ → List Check
 slot_checks_of kept latest head image i = if head.date == 0 then [] else day_checks_by kept latest head image i
 
+-- so of the slot of an index in an image
 abbrev pub slot_checks_by : (kept latest : ℕ) → List ℕ → ℕ → List Check
 slot_checks_by kept latest image i = slot_checks_of kept latest (head_at image i) image i
 
@@ -89,12 +92,15 @@ slots_by kept image latest [] = []
 slots_by kept image latest (i ∷ is) = slot_checks_by kept latest image i
     ++ slots_by kept image (max latest (slot_date image i)) is
 
+-- the slots that are there stand one after the other
 abbrev pub is_whole : Density → Bool
 is_whole Empty = true
 is_whole Filled = true
 is_whole Ended = true
 is_whole Broken = false
 
+-- the pointer is an index, the slots stand one after the other, and the last of them is not later than the last-kept
+-- minute's day or is the pointer's
 abbrev pub pointer_passes : (kept p : ℕ) → Walk → Bool
 pointer_passes kept p walk = nat_lt p DAY_SLOTS
     && (is_whole walk.density && (nat_le (walk.last_date / 86400) (kept / 1440) || walk.last_index == p))

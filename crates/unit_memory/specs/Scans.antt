@@ -5,9 +5,11 @@ use Rattle.unit_model.specs.Days.{bare}
 use Rattle.unit_model.specs.Decoding as decoding
 use Rattle.unit_memory.specs.declared.words.Scan.{Scan}
 
+-- no word is read yet
 abbrev pub start : Scan
 start = record { count = 0; driver = bare; codriver = bare; minute = 0; next_driver = 0; next_codriver = 0 }
 
+-- the first two words are the driver's and the co-driver's at minute 0
 abbrev pub is_first_good : ℕ → ℕ → Bool
 is_first_good place w = decoding.is_first_good place w
 
@@ -33,6 +35,7 @@ driver_next kept s w =
       next_codriver = s.next_codriver;
     }))
 
+-- and with a co-driver's word
 abbrev pub codriver_next : ℕ → Scan → ℕ → Option Scan
 codriver_next kept s w =
     if nat_lt (w % 2048) s.next_codriver then None
@@ -60,6 +63,7 @@ next_scan kept s place w =
     if nat_le 1440 (w % 2048) || (nat_lt (w % 2048) s.minute || not (is_first_good place w)) then None
     else (if w / 32768 % 2 == 0 then driver_next kept s w else codriver_next kept s w)
 
+-- it goes on, or has failed at this place
 abbrev pub or_place : ℕ → Option Scan → (Scan → Result Scan ℕ) → Result Scan ℕ
 or_place place None go = Err place
 or_place place (Some s) go = go s

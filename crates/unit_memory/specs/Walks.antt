@@ -5,22 +5,25 @@ use Rattle.unit_memory.specs.declared.walk.Density.{Density}
 use Rattle.unit_memory.specs.declared.walk.Density.TheVariants.{Empty, Filled, Ended, Broken}
 use Rattle.unit_memory.specs.declared.walk.Walk.{Walk}
 
+-- how the slots stand with one more that is there
 abbrev pub after_day : Density → Density
 after_day Empty = Filled
 after_day Filled = Filled
 after_day Ended = Broken
 after_day Broken = Broken
 
+-- and with an empty one more
 abbrev pub after_gap : Density → Density
 after_gap Empty = Empty
 after_gap Filled = Ended
 after_gap Ended = Broken
 after_gap Broken = Broken
 
+-- no slot is read yet
 abbrev pub walk_start : Walk
 walk_start = record { latest = 0; last_index = 0; last_date = 0; today = None; there = 0; density = Empty }
 
--- with an empty slot more, and with one that is there
+-- with an empty slot more
 abbrev pub with_gap : Walk → Walk
 with_gap s = record {
   latest = s.latest;
@@ -31,6 +34,7 @@ with_gap s = record {
   density = after_gap s.density;
 }
 
+-- and with one more that is there, at this index and with this date
 abbrev pub with_day : (day : ℕ) → Walk → (index date : ℕ) → Walk
 with_day day s index date = record {
   latest = max s.latest date;

@@ -1,3 +1,4 @@
+//! Why the memory of a unit is not read.
 use tach_media::Failed;
 
 /// Why the memory of a unit is not read.

@@ -1,3 +1,4 @@
+//! A new unit is made.
 ghost use Rattle.std.specs.Prelude.{◌≡◌, ◌≤◌, ◌<◌, ◌+◌, ◌-◌, ◌*◌, ◌/◌, length, IfOk, OnOk, IfSome, is_err, true};
 ghost use Rattle.std.specs.Prelude.{option_map};
 ghost use Rattle.unit_model.specs.declared.layout.TheConstants.{IMAGE_SIZE};
@@ -5,7 +6,7 @@ ghost use Rattle.tach_media.specs.Medium.{LeavesOnly, HasCause, IsSettled, IsPar
 ghost use Rattle.tach_media.specs.Medium.{put};
 ghost use Rattle.unit_model.specs.Image.{IsUnit};
 ghost use Rattle.unit_model.specs.NewImage.{zeros, new_image};
-ghost use Rattle.unit_memory.specs.Formats.{IsFormatting, identified};
+ghost use Rattle.unit_memory.specs.Formats.{IsFormatting, format_most, identified};
 
 use tach_media::{Failed, Medium};
 use tacho_types::Registration;
@@ -14,14 +15,18 @@ use unit_model::layout::{IDENTIFICATION, IMAGE_SIZE, REGISTRATION, SPEED_LIMIT, 
 /// What a unit is told of its vehicle: the identification number, the registration, and the speed limit in km/h.
 #[derive(Clone, Copy, Debug, PartialEq, Eq)]
 pub struct Identity {
+    /// The vehicle identification number.
     pub vin: [u8; 17],
+    /// The nation and the number of the registration.
     pub registration: Registration,
+    /// The authorised speed in km/h, 0 to 255.
     pub limit: u8,
 }
 
 /// How many zeros one write takes.
 const CHUNK: u32 = 4096;
 
+/// The zeros of one write.
 fn chunk() -> [u8; 4096]
     ensures { result ≡ zeros 4096 }
 {
@@ -31,6 +36,10 @@ fn chunk() -> [u8; 4096]
 /// Makes a new unit of this identity: zeros where nothing else is known (profile). The version is written last, and is
 /// 0 as long as this goes on: a stop leaves the old image, one whose version is 0, or the new one. Five of its writes
 /// are small ones, and each chunk of zeros takes 17 at most.
+///
+/// # Errors
+///
+/// `Failed` where the medium failed; the unit may then be the old one, the new one, or none.
 pub fn format_unit<M: Medium>(unit: &mut M, identity: &Identity) -> Result<(), Failed>
     requires unit { IsUnit (M.state unit.old) }
     ensures formatted { OnOk result ((M.state unit.new).image ≡ option_map
@@ -39,7 +48,7 @@ pub fn format_unit<M: Medium>(unit: &mut M, identity: &Identity) -> Result<(), F
         (IsFormatting (new_image identity.now.vin identity.now.registration.0 identity.now.limit)) }
     ensures settled { OnOk result ((M.state unit.new).clock < last_count → IsSettled (M.state unit.new)) }
     ensures cause { HasCause (M.state unit.old) (M.state unit.new) (is_err result) }
-    ensures most { (M.state unit.new).clock ≤ (M.state unit.old).clock + 10324 }
+    ensures most { (M.state unit.new).clock ≤ (M.state unit.old).clock + format_most }
 {
     unit.write_at(VERSION.place, &[0, 0, 0, 0])?;
     identify(unit, identity)?;
@@ -48,7 +57,7 @@ pub fn format_unit<M: Medium>(unit: &mut M, identity: &Identity) -> Result<(), F
     Ok(())
 }
 
-// Writes the identification number, the registration and the speed limit.
+/// Writes the identification number, the registration and the speed limit.
 fn identify<M: Medium>(unit: &mut M, identity: &Identity) -> Result<(), Failed>
     requires works { (M.state unit.old).works ≡ true }
     requires unit { IsUnit (M.state unit.old) }
@@ -66,7 +75,7 @@ fn identify<M: Medium>(unit: &mut M, identity: &Identity) -> Result<(), Failed>
     Ok(())
 }
 
-// Writes zeros from one place to another.
+/// Writes zeros from one place to another.
 fn clear<M: Medium>(unit: &mut M, from: u32, to: u32) -> Result<(), Failed>
     requires works { (M.state unit.old).works ≡ true }
     requires unit { IsUnit (M.state unit.old) }

@@ -1,3 +1,4 @@
+//! An image is judged, field by field.
 ghost use Rattle.std.specs.Prelude.{◌≡◌, ◌≤◌, ◌<◌, ◌+◌, ◌==◌, ◌||◌, nat_lt, IfOk, IfSome, is_err, is_some, true};
 ghost use Rattle.unit_model.specs.declared.layout.TheConstants.{DAY_SLOTS, IMAGE_SIZE};
 ghost use Rattle.tach_media.specs.Medium.{Reads};
@@ -7,12 +8,12 @@ ghost use Rattle.unit_memory.specs.Judging.{front_of, front_by, rings_of, pointe
 
 use crate::slots::{judge_slots, or_else};
 use crate::walk::{Density, Walk};
+use activity_codec::{DAY_MINUTES, DAY_SECONDS};
 use tach_media::{Failed, Medium, read_number};
 use unit_model::layout::{
-    CELL_WORD, CELLS, DAY_MINUTES, DAY_SECONDS, DAY_SLOTS, DAYS, HIGHEST_ODOMETER, INSERTION_SLOTS,
-    INSERTIONS, LAST_KEPT, LAST_MINUTE, MOST_OVERS, ODOMETER, OVER_COUNT, OWED_ROWS, PLACE_SLOTS,
-    PLACES, PLAIN_VERSION, RULE_BYTE, RULED_VERSION, SPEED_SLOTS, SPEEDS, VERSION, WORD_MINUTES,
-    cell_place,
+    CELL_WORD, CELLS, DAY_SLOTS, DAYS, HIGHEST_ODOMETER, INSERTION_SLOTS, INSERTIONS, LAST_KEPT,
+    LAST_MINUTE, MOST_OVERS, ODOMETER, OVER_COUNT, OWED_ROWS, PLACE_SLOTS, PLACES, PLAIN_VERSION,
+    RULE_BYTE, RULED_VERSION, SPEED_SLOTS, SPEEDS, VERSION, WORD_MINUTES, cell_place,
 };
 
 /// What judging an image tells: the place of the first field that fails, the last-kept minute, the pointer of the days,
@@ -25,7 +26,7 @@ pub struct Judged {
     pub walk: Walk,
 }
 
-// The first of the failing places, where a field at this place comes after the others.
+/// The first of the failing places, where a field at this place comes after the others.
 fn or_failing(found: Option<u32>, place: u32, passes: bool) -> Option<u32>
     ensures { result ≡ or_failing found place passes }
 {
@@ -35,7 +36,7 @@ fn or_failing(found: Option<u32>, place: u32, passes: bool) -> Option<u32>
     }
 }
 
-// The version, the rule byte, the last-kept minute, the odometer, the number of over speedings.
+/// The version, the rule byte, the last-kept minute, the odometer, the number of over speedings.
 fn bad_front<M: Medium>(unit: &mut M, kept: u32, has_today: bool) -> Result<Option<u32>, Failed>
     requires unit { (M.state unit.old).size ≡ IMAGE_SIZE }
     ensures found { IfOk result (λ found. IfSome (M.state unit.old).image (λ x. found ≡ first_failing
@@ -49,6 +50,7 @@ fn bad_front<M: Medium>(unit: &mut M, kept: u32, has_today: bool) -> Result<Opti
     Ok(front_place(version, rule, kept, has_today, odometer, overs))
 }
 
+/// The place of the first field in front that fails.
 fn front_place(
     version: u32,
     rule: u32,
@@ -77,7 +79,7 @@ fn front_place(
     None
 }
 
-// The cells of the owed rows.
+/// The cells of the owed rows.
 fn bad_cell<M: Medium>(unit: &mut M) -> Result<Option<u32>, Failed>
     requires works { (M.state unit.old).works ≡ true }
     requires unit { (M.state unit.old).size ≡ IMAGE_SIZE }
@@ -95,13 +97,14 @@ fn bad_cell<M: Medium>(unit: &mut M) -> Result<Option<u32>, Failed>
     Ok(found)
 }
 
+/// Whether a cell with this minute and this word passes.
 fn cell_passes(minute: u32, word: u32) -> bool
     ensures { result ≡ (minute == 0 || nat_lt (word_minute word) 1440) }
 {
     minute == 0 || word % WORD_MINUTES < DAY_MINUTES
 }
 
-// The pointers of insertions, places and detailed speed.
+/// The pointers of insertions, places and detailed speed.
 fn bad_ring<M: Medium>(unit: &mut M) -> Result<Option<u32>, Failed>
     requires unit { (M.state unit.old).size ≡ IMAGE_SIZE }
     ensures found { IfOk result (λ found. IfSome (M.state unit.old).image (λ x. found ≡ first_failing
@@ -114,6 +117,7 @@ fn bad_ring<M: Medium>(unit: &mut M) -> Result<Option<u32>, Failed>
     Ok(ring_place(insertion, place, speed))
 }
 
+/// The place of the first pointer of insertions, places and detailed speed that fails.
 fn ring_place(insertion: u32, place: u32, speed: u32) -> Option<u32>
     ensures { result ≡ first_failing (rings_of insertion place speed) }
 {
@@ -129,7 +133,7 @@ fn ring_place(insertion: u32, place: u32, speed: u32) -> Option<u32>
     None
 }
 
-// Whether the pointer of the days is an index, their slots are dense, and a later day stands at it.
+/// Whether the pointer of the days is an index, their slots are dense, and a later day stands at it.
 fn pointer_passes(kept: u32, pointer: u32, walk: Walk) -> bool
     ensures { result ≡ pointer_passes kept pointer walk }
 {
@@ -138,7 +142,7 @@ fn pointer_passes(kept: u32, pointer: u32, walk: Walk) -> bool
         && (walk.last_date / DAY_SECONDS <= kept / DAY_MINUTES || walk.last_index == pointer)
 }
 
-// Whether the last-kept minute's day is there.
+/// Whether the last-kept minute's day is there.
 fn has_today(today: Option<u32>) -> bool
     ensures { result ≡ is_some today }
 {
@@ -148,7 +152,7 @@ fn has_today(today: Option<u32>) -> bool
     }
 }
 
-// The index behind the pointer, where the oldest place is; the end where the pointer is no index.
+/// The index behind the pointer, where the oldest place is; the end where the pointer is no index.
 fn turn_at(pointer: u32) -> u32
     ensures turn { result ≡ turn_at pointer }
     ensures below { result ≤ DAY_SLOTS }
@@ -161,6 +165,10 @@ fn turn_at(pointer: u32) -> u32
 }
 
 /// Judges an image: each field is read once, and the first in order of places that fails is told. It writes nothing.
+///
+/// # Errors
+///
+/// `Failed` where the medium failed.
 pub fn judge_image<M: Medium>(unit: &mut M) -> Result<Judged, Failed>
     requires unit { (M.state unit.old).size ≡ IMAGE_SIZE }
     ensures judged { IfOk result (λ judged. IfSome (M.state unit.old).image (IsJudged judged)) }

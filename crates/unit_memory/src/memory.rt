@@ -1,3 +1,4 @@
+//! What the memory of a unit says of it.
 ghost use Rattle.std.specs.Prelude.{◌≡◌, IfOk, OnOk, IfSome, IfErr, Some, is_err, true};
 ghost use Rattle.unit_model.specs.declared.layout.TheConstants.{IMAGE_SIZE, RULE_BYTE};
 ghost use Rattle.tach_media.specs.Medium.{Reads};
@@ -19,10 +20,15 @@ use unit_model::layout::{PLAIN_VERSION, REGISTRATION, RULE_BYTE, SPEED_LIMIT, VE
 /// version 1.
 #[derive(Clone, Copy, Debug, PartialEq, Eq)]
 pub struct UnitFacts {
+    /// The vehicle identification number.
     pub vin: [u8; 17],
+    /// The nation and the number of the registration.
     pub registration: Registration,
+    /// The authorised speed in km/h, 0 to 255.
     pub limit: u8,
+    /// The version of the image, 1 or 2.
     pub version: u8,
+    /// Which rule of minutes holds, by version 2: 0 the original one, 1 the amended one; 0 by version 1.
     pub rule_byte: u8,
 }
 
@@ -69,6 +75,10 @@ impl UnitMemory {
 
     /// Reads a memory whose image is known to decode, as from the load of another part of the unit: it is not judged
     /// again. It writes nothing.
+    ///
+    /// # Errors
+    ///
+    /// `Failed` where the medium failed.
     pub fn read<M: Medium>(unit: &mut M) -> Result<UnitMemory, Failed>
         requires unit { (M.state unit.old).size ≡ IMAGE_SIZE }
         requires decodes { IfSome (M.state unit.old).image Decodes }
@@ -121,7 +131,7 @@ impl UnitMemory {
     }
 }
 
-// What is said of a unit, together.
+/// What is said of a unit, together.
 fn facts_of(identity: Identity, version: u8, rule_byte: u8) -> UnitFacts
     ensures { result ≡ record {
       vin = identity.vin;
@@ -141,7 +151,7 @@ fn facts_of(identity: Identity, version: u8, rule_byte: u8) -> UnitFacts
     }
 }
 
-// Reads what the unit was told of its vehicle.
+/// Reads what the unit was told of its vehicle.
 fn read_identity<M: Medium>(unit: &mut M) -> Result<Identity, Failed>
     requires unit { (M.state unit.old).size ≡ IMAGE_SIZE }
     ensures identity { IfOk result (λ identity. IfSome (M.state unit.old).image (IsIdentity identity)) }
@@ -160,7 +170,7 @@ fn read_identity<M: Medium>(unit: &mut M) -> Result<Identity, Failed>
     })
 }
 
-// Reads the version of an image that decodes.
+/// Reads the version of an image that decodes.
 fn read_version<M: Medium>(unit: &mut M) -> Result<u8, Failed>
     requires works { (M.state unit.old).works ≡ true }
     requires unit { (M.state unit.old).size ≡ IMAGE_SIZE }
@@ -172,14 +182,14 @@ fn read_version<M: Medium>(unit: &mut M) -> Result<u8, Failed>
     Ok(version_known(version))
 }
 
-// The version of an image that decodes, by its number.
+/// The version of an image that decodes, by its number.
 fn version_known(version: u32) -> u8
     ensures { result ≡ version_known version }
 {
     if version == PLAIN_VERSION { 1 } else { 2 }
 }
 
-// Reads the rule byte of an image of this version.
+/// Reads the rule byte of an image of this version.
 fn read_rule_byte<M: Medium>(unit: &mut M, version: u8) -> Result<u8, Failed>
     requires works { (M.state unit.old).works ≡ true }
     requires unit { (M.state unit.old).size ≡ IMAGE_SIZE }

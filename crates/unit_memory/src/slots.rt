@@ -12,10 +12,10 @@ ghost use Rattle.unit_memory.specs.Judging.{head_at, failed_of};
 
 use crate::walk::{Walk, next_walk};
 use crate::words::{Scan, scan_day, word_in};
+use activity_codec::{DAY_MINUTES, DAY_SECONDS};
 use tach_media::{Failed, Medium};
 use unit_model::layout::{
-    DAY_COUNT, DAY_DATE, DAY_MINUTES, DAY_ODOMETER, DAY_SECONDS, DAY_SLOT_SIZE, DAY_WORD_LIMIT,
-    DAYS, HIGHEST_ODOMETER,
+    DAY_COUNT, DAY_DATE, DAY_ODOMETER, DAY_SLOT_SIZE, DAY_WORD_LIMIT, DAYS, HIGHEST_ODOMETER,
 };
 
 /// What stands in front of a slot's words: its date, its odometer, and how many words it has.
@@ -26,7 +26,7 @@ pub struct Head {
     pub count: u32,
 }
 
-// The number in four bytes.
+/// The number in four bytes.
 fn four_in(bytes: &[u8], place: u32) -> u32
     requires { place + 4 ≤ length bytes.now }
     ensures { result ≡ number_at bytes.now place 4 }
@@ -40,7 +40,7 @@ fn four_in(bytes: &[u8], place: u32) -> u32
     ])
 }
 
-// What stands in front of a slot's words, in the slot's bytes.
+/// What stands in front of a slot's words, in the slot's bytes.
 fn head_in(bytes: &[u8]) -> Head
     requires { 10 ≤ length bytes.now }
     ensures { result ≡ head_in bytes.now }
@@ -52,7 +52,7 @@ fn head_in(bytes: &[u8]) -> Head
     }
 }
 
-// Reads what stands in front of a slot's words.
+/// Reads what stands in front of a slot's words.
 fn read_head<M: Medium>(unit: &mut M, index: u32) -> Result<Head, Failed>
     requires unit { (M.state unit.old).size ≡ IMAGE_SIZE }
     requires index { index < DAY_SLOTS }
@@ -64,7 +64,7 @@ fn read_head<M: Medium>(unit: &mut M, index: u32) -> Result<Head, Failed>
     Ok(head_in(&bytes))
 }
 
-// Whether a date may stand behind days up to the latest one.
+/// Whether a date may stand behind days up to the latest one.
 fn date_passes(kept: u32, latest: u32, date: u32) -> bool
     ensures { result ≡ date_passes kept latest date }
 {
@@ -73,7 +73,7 @@ fn date_passes(kept: u32, latest: u32, date: u32) -> bool
         && (date / DAY_SECONDS <= kept / DAY_MINUTES || latest / DAY_SECONDS <= kept / DAY_MINUTES)
 }
 
-// A day slot that is there.
+/// A day slot that is there.
 fn bad_day<M: Medium>(
     unit: &mut M,
     kept: u32,
@@ -99,6 +99,7 @@ fn bad_day<M: Medium>(
     }
 }
 
+/// The place of the first field in front of a day's words that fails.
 fn day_place(place: u32, passes: bool, odometer: u32, count: u32) -> Option<u32>
     requires { place + 8 < 2 ^ 32 }
     ensures found { result ≡ first_failing (day_front place passes odometer count) }
@@ -116,6 +117,7 @@ fn day_place(place: u32, passes: bool, odometer: u32, count: u32) -> Option<u32>
     None
 }
 
+/// The place at which a scan failed, if it did.
 fn failed_of(scan: Result<Scan, u32>) -> Option<u32>
     ensures { result ≡ failed_of scan }
 {
@@ -135,7 +137,7 @@ pub fn or_else(found: Option<u32>, other: Option<u32>) -> Option<u32>
     }
 }
 
-// The slot of one index more: the walk with it, and the place of its first field that fails behind the days before.
+/// The slot of one index more: the walk with it, and the place of its first field that fails behind the days before.
 fn judge_slot<M: Medium>(
     unit: &mut M,
     kept: u32,
@@ -163,6 +165,10 @@ fn judge_slot<M: Medium>(
 }
 
 /// Goes on over the slots from one index to another: the walk with them, and the place of the first field that fails.
+///
+/// # Errors
+///
+/// `Failed` where the medium failed.
 pub fn judge_slots<M: Medium>(
     unit: &mut M,
     kept: u32,

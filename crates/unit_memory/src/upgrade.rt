@@ -1,3 +1,4 @@
+//! A unit of version 1 is made one of version 2.
 ghost use Rattle.std.specs.Prelude.{◌≡◌, ◌≤◌, ◌<◌, ◌+◌, Ok, IfOk, OnOk, IfSome, IfErr, Some, is_err, option_map, true};
 ghost use Rattle.std.specs.Prelude.{false};
 ghost use Rattle.tach_media.specs.Medium.{LeavesOnly, HasCause, IsSettled, last_count};
@@ -43,7 +44,7 @@ impl UnitMemory {
     }
 }
 
-// The amended rule in an image of version 1, and then the version 2.
+/// The amended rule in an image of version 1, and then the version 2.
 fn write_amended<M: Medium>(unit: &mut M) -> Result<(), Failed>
     requires works { (M.state unit.old).works ≡ true }
     requires unit { IsUnit (M.state unit.old) }

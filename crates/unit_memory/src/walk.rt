@@ -1,8 +1,9 @@
+//! The day slots of an image, one after another.
 ghost use Rattle.std.specs.Prelude.{◌≡◌, ◌≤◌, ◌<◌, ◌+◌};
 ghost use Rattle.unit_model.specs.declared.layout.TheConstants.{DAY_SLOTS};
 ghost use Rattle.unit_memory.specs.Walks.{after_day, after_gap, next_walk};
 
-use unit_model::layout::DAY_SECONDS;
+use activity_codec::DAY_SECONDS;
 
 /// How the day slots that are there stand so far, from the oldest place on.
 #[derive(Clone, Copy, Debug, PartialEq, Eq)]
@@ -43,7 +44,7 @@ impl Walk {
 }
 
 impl Density {
-    // With one slot more that is there.
+    /// With one slot more that is there.
     fn after_day(self) -> Density
         ensures { result ≡ after_day self }
     {
@@ -55,7 +56,7 @@ impl Density {
         }
     }
 
-    // With one empty slot more.
+    /// With one empty slot more.
     fn after_gap(self) -> Density
         ensures { result ≡ after_gap self }
     {

@@ -1,3 +1,4 @@
+//! The words of a day, one after another.
 ghost use Rattle.std.specs.Prelude.{◌≡◌, ◌≤◌, ◌<◌, ◌+◌, ◌*◌, ◌^◌, IfOk, IfSome, is_err, length, true};
 ghost use Rattle.unit_model.specs.declared.layout.TheConstants.{DAY_SLOTS, DAY_WORD_LIMIT, IMAGE_SIZE};
 ghost use Rattle.tach_media.specs.Medium.{Reads};
@@ -5,8 +6,9 @@ ghost use Rattle.unit_model.specs.gated_ring.Ring.{number_at};
 ghost use Rattle.unit_model.specs.Image.{slot_place, slot_words, words_at};
 ghost use Rattle.unit_memory.specs.Scans.{next_scan, driver_next, codriver_next, start, scan_from, is_first_good};
 
+use activity_codec::DAY_MINUTES;
 use tach_media::{Failed, Medium};
-use unit_model::layout::{DAY_MINUTES, DAY_SLOT_SIZE, DAY_WORDS, DAYS, WORD_MINUTES, WORD_SLOT};
+use unit_model::layout::{DAY_SLOT_SIZE, DAY_WORDS, DAYS, WORD_MINUTES, WORD_SLOT};
 
 // How many words of a day are read at once.
 const BLOCK: u32 = 240;
@@ -23,7 +25,7 @@ pub struct Scan {
     pub next_codriver: u32,
 }
 
-// After one word more, where it may stand at this place of the day; words later than a minute count for nothing.
+/// After one word more, where it may stand at this place of the day; words later than a minute count for nothing.
 fn next_scan(kept: u32, scan: Scan, place: u32, word: u32) -> Option<Scan>
     requires few { scan.count < DAY_WORD_LIMIT }
     ensures next { result ≡ next_scan kept scan place word }
@@ -39,13 +41,14 @@ fn next_scan(kept: u32, scan: Scan, place: u32, word: u32) -> Option<Scan>
     codriver_next(kept, scan, word)
 }
 
-// The first two words are the driver's and the co-driver's at minute 0.
+/// The first two words are the driver's and the co-driver's at minute 0.
 fn is_first_good(place: u32, word: u32) -> bool
     ensures { result ≡ is_first_good place word }
 {
     place > 1 || (word / WORD_SLOT % 2 == place && word % WORD_MINUTES == 0)
 }
 
+/// What the words say with a driver's word more; nothing where it may not stand there.
 fn driver_next(kept: u32, scan: Scan, word: u32) -> Option<Scan>
     requires few { scan.count < DAY_WORD_LIMIT }
     ensures next { result ≡ driver_next kept scan word }
@@ -75,6 +78,7 @@ fn driver_next(kept: u32, scan: Scan, word: u32) -> Option<Scan>
     })
 }
 
+/// The same with a co-driver's word.
 fn codriver_next(kept: u32, scan: Scan, word: u32) -> Option<Scan>
     requires few { scan.count < DAY_WORD_LIMIT }
     ensures next { result ≡ codriver_next kept scan word }
@@ -113,8 +117,8 @@ pub fn word_in(bytes: &[u8], place: u32) -> u32
     u32::from(u16::from_be_bytes([bytes[from], bytes[from + 1]]))
 }
 
-// Goes on over so many words in these bytes, behind so many words of a day whose first word stands at this place of the
-// image.
+/// Goes on over so many words in these bytes, behind so many words of a day whose first word stands at this place of the
+/// image.
 fn scan_words(
     kept: u32,
     base: u32,
@@ -141,7 +145,7 @@ fn scan_words(
     Ok(scan)
 }
 
-// Reads a block of a day's words at once, and goes on over so many of them.
+/// Reads a block of a day's words at once, and goes on over so many of them.
 fn scan_block<M: Medium>(
     unit: &mut M,
     kept: u32,
@@ -167,6 +171,10 @@ fn scan_block<M: Medium>(
 
 /// Judges the words of a day slot, and tells what those say that are not later than a minute of the day; or the place
 /// of the first word that may not stand there. It reads 240 words at once.
+///
+/// # Errors
+///
+/// `Failed` where the medium failed.
 pub fn scan_day<M: Medium>(
     unit: &mut M,
     index: u32,

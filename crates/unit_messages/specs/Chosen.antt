@@ -29,10 +29,11 @@ chosen_at r choice x js = filter (chosen choice) (map (entry_at r x) (filter (is
 abbrev pub shape_of : Entries → Shape
 shape_of e = record { base = e.base; width = e.width; count = e.count; pointer_width = 0; gate = e.gate }
 
--- an entry is there, by its gate, and chosen; the list of it where it is
+-- an entry is there, by its gate, and chosen
 abbrev pub is_meant : Entries → List ℕ → Bool
 is_meant e entry = not (number_at entry e.gate 4 == 0) && chosen e.choice entry
 
+-- the entry alone where it is meant, else none
 abbrev pub meant : Entries → List ℕ → List (List ℕ)
 meant e entry = cond (is_meant e entry) (entry ∷ []) []
 
@@ -44,7 +45,7 @@ pub record AreEntries (e : Entries) : Type 0 where
   pub few : e.count ≤ INSERTION_SLOTS
   pub room : room_of e.choice ≤ e.width
 
--- the insertions that touch a day, its places, the blocks of detailed speed, and all entries of a table
+-- the insertions that touch a day
 abbrev pub insertions_on : ℕ → Entries
 insertions_on date = record {
   base = INSERTIONS.place
@@ -55,18 +56,22 @@ insertions_on date = record {
   choice = Touching date;
 }
 
+-- the places of a day
 abbrev pub places_on : ℕ → Entries
 places_on date = record { base = PLACES.place + 4; width = 28; count = PLACE_SLOTS; gate = 18; choice = PlaceOn date }
 
+-- the blocks of detailed speed
 abbrev pub speed_blocks : Entries
 speed_blocks = record { base = SPEEDS.place + 4; width = 64; count = SPEED_SLOTS; gate = 0; choice = Each }
 
+-- all entries of a table, of which each begins with its type and its purpose
 abbrev pub entries_of : (base width count : ℕ) → Entries
 entries_of base width count = record { base = base; width = width; count = count; gate = 2; choice = Each }
 
--- those of a ring, whose pointer stands at a place, that are there and chosen, oldest first
+-- these entries as a ring, whose pointer stands at a place
 abbrev pub ring_of : ℕ → Entries → Shape
 ring_of place e = record { base = place; width = e.width; count = e.count; pointer_width = 4; gate = e.gate }
 
+-- those of a ring, whose pointer stands at a place, that are there and chosen, oldest first
 abbrev pub chosen_in_ring : ℕ → Entries → List ℕ → List (List ℕ)
 chosen_in_ring place e x = filter (chosen e.choice) (ring_list (ring_of place e) x)

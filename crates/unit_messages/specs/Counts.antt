@@ -4,7 +4,8 @@ use Rattle.std.specs.List.{AllByRecursion}
 use Rattle.gated_ring.specs.Ring.{ring_list}
 use Rattle.message_model.specs.Records.{insertion_ring, unit_place_ring}
 use Rattle.message_model.specs.Sending.{touches_day, place_in_day}
-use Rattle.unit_model.specs.declared.layout.TheConstants.{DAY_SECONDS, INSERTION_SLOTS, PLACE_SLOTS}
+use Rattle.activity_codec.specs.declared.day.TheConstants.{DAY_SECONDS}
+use Rattle.unit_model.specs.declared.layout.TheConstants.{INSERTION_SLOTS, PLACE_SLOTS}
 use Rattle.unit_messages.specs.declared.entries.Entries.{Entries}
 use Rattle.unit_messages.specs.declared.outline.counts.TheConstants.{DATES}
 use Rattle.unit_messages.specs.declared.outline.counts.Counts.{Counts}
@@ -21,10 +22,11 @@ entries_on Places date = places_on date
 abbrev pub AreFew : ℕ → List ℕ → Type 0
 AreFew most counts = AllByRecursion (λ n. n ≤ most) counts
 
--- each count is that of its date, of the entries at these indices
+-- how many of the entries at these indices are there and chosen
 abbrev pub counted_on : Entries → (x js : List ℕ) → ℕ
 counted_on e x js = length (chosen_at (shape_of e) e.choice x js)
 
+-- each count of this kind is that of its date, from this first second on, of the entries at these indices
 abbrev pub CountsEach : Dated → (first : ℕ) → (x js counts : List ℕ) → Type 0
 CountsEach kind first x js counts = (i : ℕ) → i < DATES
     → slice_index_or counts i 0 ≡ counted_on (entries_on kind (first + DAY_SECONDS * i)) x js

@@ -9,10 +9,12 @@ use Rattle.unit_messages.specs.declared.sending.MessageFault.TheVariants.{Failed
 use Rattle.unit_messages.specs.declared.sending.MessageFault.TheVariants.{Memory as MessageMemory}
 use Rattle.unit_messages.specs.declared.sending.MessageFault.TheVariants.{BadUnit as MessageBad}
 
+-- a fault of the unit, as one of a piece
 abbrev pub of_unit : UnitFault → PieceFault
 of_unit UnitFailed = Failed
 of_unit (UnitBad p) = BadUnit p
 
+-- a fault of the unit, as one of a message
 abbrev pub message_of_unit : UnitFault → MessageFault
 message_of_unit UnitFailed = MessageFailed
 message_of_unit (UnitBad p) = MessageBad p
@@ -22,6 +24,7 @@ abbrev pub IfBadPiece : PieceFault → (ℕ → Type 0) → Type 0
 IfBadPiece Failed P = Unit {0}
 IfBadPiece (BadUnit p) P = P p
 
+-- the same of a message
 abbrev pub IfBadMessage : MessageFault → (ℕ → Type 0) → Type 0
 IfBadMessage MessageFailed P = Unit {0}
 IfBadMessage MessageMemory P = Unit {0}
@@ -33,6 +36,7 @@ piece_failed (Ok x) = false
 piece_failed (Err Failed) = true
 piece_failed (Err (BadUnit p)) = false
 
+-- the same of a message
 abbrev pub message_failed : {T : Type 0} → Result T MessageFault → Bool
 message_failed (Ok x) = false
 message_failed (Err MessageFailed) = true

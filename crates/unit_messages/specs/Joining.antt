@@ -2,14 +2,15 @@
 use Rattle.std.specs.Prelude.{◌≡◌, ◌≢◌, ℕ, ◌+◌, ◌-◌, ◌*◌, ◌%◌, ◌==◌, ◌||◌, nat_lt, min, List, [], ◌∷◌, ◌++◌, take, drop}
 use Rattle.std.specs.Prelude.{Option, Some, None, if◌then◌else◌}
 use Rattle.card_layout.specs.Images.{number_at}
+use Rattle.link_model.specs.declared.lengths.TheConstants.{PIECE_MOST}
 use Rattle.unit_messages.specs.declared.joining.JoinFault.{JoinFault}
 use Rattle.unit_messages.specs.declared.joining.JoinFault.TheVariants.{Broken, Memory}
 
 -- where the piece of a counter stands in so many bytes, and how many it has
 abbrev pub piece_range : (len counter : ℕ) → Option (ℕ × ℕ)
 piece_range len counter =
-    if counter == 0 || nat_lt len (251 * (counter - 1)) then None
-    else Some (251 * (counter - 1), min (len - 251 * (counter - 1)) 251)
+    if counter == 0 || nat_lt len (PIECE_MOST * (counter - 1)) then None
+    else Some (PIECE_MOST * (counter - 1), min (len - PIECE_MOST * (counter - 1)) PIECE_MOST)
 
 -- how many pieces were joined, as a counter of two bytes, the bytes, and for how many there is room
 pub record Joined : Type 0 where
@@ -25,11 +26,12 @@ wanted j = (j.pieces + 1) % 65536
 abbrev pub counter_in : List ℕ → ℕ
 counter_in piece = number_at piece 2 2
 
--- the bytes with a piece more, of which the first gives 76 and the number too
+-- the bytes so far; before the first piece 76 and the number, which it gives
 abbrev pub begun_with : List ℕ → List ℕ → List ℕ
 begun_with [] piece = take 2 piece
 begun_with (b ∷ bytes) piece = b ∷ bytes
 
+-- the bytes with a piece more
 abbrev pub with_piece : Joined → List ℕ → List ℕ
 with_piece j piece = begun_with j.bytes piece ++ drop 4 piece
 

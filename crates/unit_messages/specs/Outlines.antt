@@ -44,7 +44,7 @@ length_of (Events e) = EVENTS_LENGTH + FAULT * e.faults + EVENT * e.events + OVE
 length_of (Speed n) = SPEED_LENGTH + SPEED_BLOCK * n
 length_of Technical = TECHNICAL_LENGTH
 
--- the numbers of an outline have their ranges, also of a unit that tells nothing
+-- the numbers of a day have their ranges, also of a unit that tells nothing
 pub record IsDayInRange (d : DayOutline) : Type 0 where
   pub odometer : d.odometer ≤ HIGHEST_ODOMETER
   pub words : d.words ≤ DAY_WORD_LIMIT
@@ -53,12 +53,14 @@ pub record IsDayInRange (d : DayOutline) : Type 0 where
   pub places : d.places ≤ PLACE_SLOTS
   pub counts : AreInRange d.counts
 
+-- so have those of events and faults
 pub record IsEventInRange (e : EventOutline) : Type 0 where
   pub faults : e.faults ≤ 24
   pub events : e.events ≤ 60
   pub overs : e.overs ≤ 10
   pub over_count : e.over_count ≤ 255
 
+-- so have those of any outline
 abbrev pub IsInRange : Plan → Type 0
 IsInRange (Overview times) = Unit {0}
 IsInRange (Day d) = IsDayInRange d
@@ -86,6 +88,7 @@ pub record IsDayOf (x : List ℕ) (d : DayOutline) : Type 0 where
   pub place_pointer : PointsInside unit_place_ring x
   pub counted : AreCounted d.counts x
 
+-- so many events, faults and over speedings are there, and the image tells this of the over speedings
 pub record AreEventsOf (x : List ℕ) (e : EventOutline) : Type 0 where
   pub faults : e.faults ≡ length (entries_in fault_table x)
   pub events : e.events ≡ length (entries_in event_table x)

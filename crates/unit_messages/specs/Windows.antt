@@ -1,5 +1,6 @@
 -- A window on a list of bytes that pass by, part after part: the bytes from a place on, at most 252.
 use Rattle.std.specs.Prelude.{◌≡◌, ◌⊎◌, min, ℕ, ◌+◌, ◌-◌, List, ◌++◌, length, take, drop}
+use Rattle.link_model.specs.declared.lengths.TheConstants.{WHOLE_MOST}
 
 -- what a window sees: how many bytes are still to be passed over, and those that are held
 pub record Sight : Type 0 where
@@ -11,13 +12,13 @@ abbrev pub passed : Sight → List ℕ → Sight
 passed w bytes = record {
   skip = w.skip - length bytes;
   held = w.held
-      ++ take (252 - length w.held) (drop w.skip bytes);
+      ++ take (WHOLE_MOST - length w.held) (drop w.skip bytes);
 }
 
 -- a window that takes no more
 pub record IsFull (w : Sight) : Type 0 where
   pub begun : w.skip ≡ 0
-  pub whole : length w.held ≡ 252
+  pub whole : length w.held ≡ WHOLE_MOST
 
 -- so many of the words to come are read: none where the window is full, else all, but at most 127
 abbrev pub IsWordCount : Sight → (count taken : ℕ) → Type 0

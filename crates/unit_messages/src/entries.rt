@@ -14,31 +14,39 @@ ghost use Rattle.unit_messages.specs.Chosen.{chosen, room_of, chosen_at, shape_o
 
 use crate::parts::{cut, four_in};
 use crate::window::Window;
+use activity_codec::DAY_SECONDS;
 use tach_media::{Failed, Medium};
-use unit_model::layout::DAY_SECONDS;
 
-/// Which entries of a ring are meant: each, the insertions of which the insertion or the withdrawal lies in a day, or
-/// the places of a day. A day is told by its first second.
+/// Which entries of a ring are meant.
 #[derive(Clone, Copy, Debug, PartialEq, Eq)]
 pub enum Choice {
+    /// Each entry.
     Each,
+    /// The insertions of which the insertion or the withdrawal lies in the day that begins at this second.
     Touching(u32),
+    /// The places of the day that begins at this second.
     PlaceOn(u32),
 }
 
-/// Entries of one width behind gates of four bytes, of which the first stands at the base.
+/// Entries of one width in the unit's image, one after the other.
 #[derive(Clone, Copy, Debug, PartialEq, Eq)]
 pub struct Entries {
+    /// The place in the image of the first one.
     pub base: u32,
+    /// How many bytes each has.
     pub width: u32,
+    /// For how many there is room.
     pub count: u32,
+    /// The place of the gate in an entry: four bytes that are not 0 where the entry is there.
     pub gate: u32,
+    /// Which of those that are there are meant.
     pub choice: Choice,
 }
 
-/// Where an insertion has its time, and the time of its withdrawal.
+/// Where an insertion has its time.
 pub(crate) const INSERTION_TIME: u32 = 94;
 
+/// Where an insertion has the time of its withdrawal.
 pub(crate) const WITHDRAWAL_TIME: usize = 102;
 
 /// Where a place has its time, behind the card's number.
@@ -50,14 +58,14 @@ pub(crate) const AT_ONCE: u32 = 31;
 // The room for them, where they are of the widest, as an insertion is.
 pub(crate) const BLOCK: usize = 3999;
 
-// Whether a second lies in the day that begins at another.
+/// Whether a second lies in the day that begins at another.
 fn is_in_day(date: u32, second: u32) -> bool
     ensures { result ≡ is_in_day date second }
 {
     second / DAY_SECONDS * DAY_SECONDS == date
 }
 
-// The first second of the day in which a time of an entry lies.
+/// The first second of the day in which a time of an entry lies.
 pub(crate) fn date_of(entry: &[u8], place: usize) -> u32
     requires { place + 4 ≤ length entry.now }
     ensures { (date : ℕ) → is_in_day date (number_at entry.now place 4) ≡ (date == result) }
@@ -65,7 +73,7 @@ pub(crate) fn date_of(entry: &[u8], place: usize) -> u32
     four_in(entry, place) / DAY_SECONDS * DAY_SECONDS
 }
 
-// How many of the entries that are left are read at once.
+/// How many of the entries that are left are read at once.
 pub(crate) fn at_once(left: u32) -> u32
     requires { 0 < left }
     ensures some { 0 < result }
@@ -76,7 +84,7 @@ pub(crate) fn at_once(left: u32) -> u32
 }
 
 impl Choice {
-    // Whether an entry is meant.
+    /// Whether an entry is meant.
     fn takes(&self, entry: &[u8]) -> bool
         requires { room_of self.now ≤ length entry.now }
         ensures { result ≡ chosen self.now entry.now }
@@ -93,7 +101,7 @@ impl Choice {
 }
 
 impl Entries {
-    // Where the entry at an index begins, of so many that are read at once.
+    /// Where the entry at an index begins, of so many that are read at once.
     pub(crate) fn place_of(&self, index: u32, count: u32) -> u32
         requires entries { AreEntries self.now }
         requires inside { index + count ≤ self.now.count }
@@ -103,7 +111,7 @@ impl Entries {
         self.base + index * self.width
     }
 
-    // How many bytes so many entries have.
+    /// How many bytes so many entries have.
     pub(crate) fn bytes_of(&self, count: u32) -> u32
         requires entries { AreEntries self.now }
         requires few { count ≤ AT_ONCE }
@@ -113,7 +121,7 @@ impl Entries {
         count * self.width
     }
 
-    // Whether an entry is there.
+    /// Whether an entry is there.
     pub(crate) fn is_there(&self, entry: &[u8]) -> bool
         requires entries { AreEntries self.now }
         requires whole { length entry.now ≡ self.now.width }
@@ -122,7 +130,7 @@ impl Entries {
         four_in(entry, self.gate as usize) != 0
     }
 
-    // Whether an entry is there and meant.
+    /// Whether an entry is there and meant.
     fn takes(&self, entry: &[u8]) -> bool
         requires entries { AreEntries self.now }
         requires whole { length entry.now ≡ self.now.width }
@@ -135,7 +143,7 @@ impl Entries {
         self.choice.takes(entry)
     }
 
-    // An entry that was read passes by, where it is there and meant.
+    /// An entry that was read passes by, where it is there and meant.
     fn pass_read(&self, entry: &[u8], window: &mut Window)
         requires entries { AreEntries self.now }
         requires whole { length entry.now ≡ self.now.width }
@@ -148,7 +156,7 @@ impl Entries {
         window.pass(entry);
     }
 
-    // An entry of some that were read at once.
+    /// An entry of some that were read at once.
     pub(crate) fn entry_in<'a>(&self, block: &'a [u8], turn: u32) -> &'a [u8]
         requires entries { AreEntries self.now }
         requires few { turn < AT_ONCE }
@@ -160,7 +168,7 @@ impl Entries {
         cut(block, place as usize, self.width as usize)
     }
 
-    // Entries that were read at once pass by, those that are there and meant.
+    /// Entries that were read at once pass by, those that are there and meant.
     fn pass_block(&self, block: &[u8], count: u32, window: &mut Window)
         requires entries { AreEntries self.now }
         requires few { count ≤ AT_ONCE }
@@ -176,7 +184,7 @@ impl Entries {
         }
     }
 
-    // So many entries from an index on are read at once, and pass by.
+    /// So many entries from an index on are read at once, and pass by.
     fn pass_some<M: Medium>(
         &self,
         unit: &mut M,
@@ -202,7 +210,7 @@ impl Entries {
         Ok(())
     }
 
-    // The entries from one index to another pass by.
+    /// The entries from one index to another pass by.
     fn pass_from<M: Medium>(
         &self,
         unit: &mut M,
@@ -234,6 +242,10 @@ impl Entries {
 
     /// The entries that are there and meant pass by, from the one at an index on and round the end. None is read where
     /// the window is full.
+    ///
+    /// # Errors
+    ///
+    /// `Failed` where the unit failed.
     pub fn pass<M: Medium>(
         &self,
         unit: &mut M,
@@ -253,7 +265,7 @@ impl Entries {
         Ok(())
     }
 
-    // So many entries are passed over: as many as lie before the window's begin.
+    /// So many entries are passed over: as many as lie before the window's begin.
     fn pass_ahead(&self, window: &mut Window) -> u32
         requires { AreEntries self.now }
         ensures few { result ≤ self.now.count }
@@ -269,7 +281,7 @@ impl Entries {
         0
     }
 
-    // How many bytes so many of all entries have.
+    /// How many bytes so many of all entries have.
     fn room_of(&self, count: u32) -> u32
         requires entries { AreEntries self.now }
         requires few { count ≤ self.now.count }
@@ -278,8 +290,8 @@ impl Entries {
         count * self.width
     }
 
-    // The entries from the one at an index on and round the end pass by, of which each is there and meant: those before
-    // the window's begin are not read.
+    /// The entries from the one at an index on and round the end pass by, of which each is there and meant: those
+    /// before the window's begin are not read.
     fn pass_each<M: Medium>(
         &self,
         unit: &mut M,
@@ -309,6 +321,10 @@ impl Entries {
 
     /// `pass`, where so many of the entries are there and meant. Where that is each of them, those before the window's
     /// begin are not read.
+    ///
+    /// # Errors
+    ///
+    /// `Failed` where the unit failed.
     pub fn pass_some_of<M: Medium>(
         &self,
         unit: &mut M,
@@ -335,6 +351,10 @@ impl Entries {
     }
 
     /// How many entries are there and meant.
+    ///
+    /// # Errors
+    ///
+    /// `Failed` where the unit failed.
     pub fn count<M: Medium>(&self, unit: &mut M) -> Result<u32, Failed>
         requires unit { (M.state unit.old).size ≡ IMAGE_SIZE }
         requires entries { AreEntries self.now }

@@ -3,26 +3,28 @@
 ghost use Rattle.std.specs.Prelude.{◌≡◌, ◌≢◌, ◌≤◌, ◌<◌, ◌+◌, ◌-◌, ◌⊎◌, ◌↔◌, ℕ, List, [], nat_lt, length, false, IfOk};
 ghost use Rattle.std.specs.Prelude.{OnOk, OnErr, IfErr, IfSome, IfNone, IsErrOf};
 ghost use Rattle.card_layout.specs.Images.{bytes_at};
+ghost use Rattle.link_model.specs.declared.lengths.TheConstants.{FRAME_MOST};
 ghost use Rattle.link_model.specs.Answers.{cut, has_piece};
 ghost use Rattle.unit_messages.specs.declared.joining.TheConstants.{LONGEST};
 ghost use Rattle.unit_messages.specs.Joining.{piece_range, wanted, counter_in, with_piece, IsFaultOf};
 
 use crate::parts::{HEADER, two_in};
 use link_frames::Frame;
+use link_model::lengths::{FRAME_MOST, PIECE_MOST};
 use std::alloc::Global;
 use std::marker::Model;
 use tach_media::Memory;
 use unit_model::layout::{DAY_WORDS, INSERTIONS, PLACES};
 
-/// How many bytes of a message a piece holds, but for the last, which holds fewer.
-pub const PIECE: u32 = 251;
+/// How many bytes stand in a piece before those of the message: 76, the number, and the counter of two bytes.
+const FRONT: usize = 4;
 
-/// The length of the longest message of a unit: that of a day with all insertions, words and places that the unit has
-/// room for. Beside them it has 144 bytes, and a ring's pointer of four bytes is none of them.
+/// The length in bytes of the longest message of a unit: that of a day with all insertions, words and places that the
+/// unit has room for. Beside them it has 144 bytes, and a ring's pointer of four bytes is none of them.
 pub const LONGEST: u32 = 136 + INSERTIONS.size + DAY_WORDS.size + PLACES.size;
 
-/// Where the piece of a counter, from 1 on, stands in so many bytes behind a message's number, and how many it has;
-/// `None` exactly where they have no such piece.
+/// Where the piece of a counter, from 1 on, stands in so many bytes behind a message's number, as a place from 0, and
+/// how many it has, 0 to 251; `None` exactly where they have no such piece.
 pub fn split_at(len: u32, counter: u16) -> Option<(u32, u32)>
     ensures range { result ≡ piece_range len counter }
     ensures cut { (content : List ℕ) → length content ≡ len
@@ -35,11 +37,11 @@ pub fn split_at(len: u32, counter: u16) -> Option<(u32, u32)>
     if counter == 0 {
         return None;
     }
-    let place = PIECE * (counter as u32 - 1);
+    let place = PIECE_MOST * (counter as u32 - 1);
     if place > len {
         return None;
     }
-    Some((place, (len - place).min(PIECE)))
+    Some((place, (len - place).min(PIECE_MOST)))
 }
 
 /// Why a piece was not joined.
@@ -47,10 +49,11 @@ pub fn split_at(len: u32, counter: u16) -> Option<(u32, u32)>
 pub enum JoinFault {
     /// Its counter is not the wanted one: the wanted one, and the one that came.
     Broken(u16, u16),
+    /// There is no memory for the piece.
     Memory,
 }
 
-/// Joins the pieces of a message.
+/// Joins the pieces of a message, each behind the one before it.
 #[derive(Drop)]
 pub struct Joiner {
     pieces: u16,
@@ -79,14 +82,14 @@ impl Joiner {
         }
     }
 
-    /// Joins a piece; `true` exactly where it is the last, which has fewer than 255 bytes.
+    /// Joins a piece; `true` exactly where it is the last, which does not fill its frame: it has fewer than 255 bytes.
     ///
     /// # Errors
     ///
     /// `Broken` exactly where its counter is not the wanted one, and `Memory`; the joiner is as it was.
     pub fn take(&mut self, frame: &Frame) -> Result<bool, JoinFault>
         requires { 4 ≤ length frame.now }
-        ensures last { IfOk result (λ last. last ≡ nat_lt (length frame.now) 255) }
+        ensures last { IfOk result (λ last. last ≡ nat_lt (length frame.now) FRAME_MOST) }
         ensures pieces { OnOk result (self.new.pieces ≡ wanted self.old) }
         ensures bytes { OnOk result (self.new.bytes ≡ with_piece self.old frame.now) }
         ensures same { OnErr result (self.new ≡ self.old) }
@@ -103,14 +106,14 @@ impl Joiner {
             return Err(JoinFault::Broken(wanted, counter));
         }
         let first = if self.bytes.is_empty() { HEADER } else { 0 };
-        let more = &piece[4..];
+        let more = &piece[FRONT..];
         if self.bytes.reserve(first + more.len()).is_err() {
             return Err(JoinFault::Memory);
         }
         let _ = self.bytes.extend_from_slice(&piece[..first]);
         let _ = self.bytes.extend_from_slice(more);
         self.pieces = wanted;
-        Ok(piece.len() < 255)
+        Ok(piece.len() < FRAME_MOST as usize)
     }
 
     /// The message so far, with 76 and its number in front.

@@ -5,6 +5,7 @@ ghost use Rattle.std.specs.Prelude.{ℕ, List, Some, min, ◌≡◌, ◌≤◌, 
 ghost use Rattle.unit_minutes.specs.Reading.{ReadsIfAny};
 ghost use Rattle.unit_messages.specs.declared.joining.TheConstants.{LONGEST};
 ghost use Rattle.unit_messages.specs.Sent.{IsPiece};
+ghost use Rattle.link_model.specs.declared.lengths.TheConstants.{WHOLE_MOST};
 ghost use Rattle.message_model.specs.Records.{speed_ring};
 ghost use Rattle.unit_messages.specs.Counts.{AreCounted, AreInRange};
 ghost use Rattle.unit_messages.specs.Outlines.{Outlines, HasPassed, IsDayInRange, IsEventInRange, bytes_sent, asked};
@@ -40,11 +41,14 @@ pub const EVENTS_LENGTH: u32 = 143;
 /// How many bytes the message of detailed speed has beside its blocks.
 pub const SPEED_LENGTH: u32 = 132;
 
-/// What an overview tells beside fields of the image: the unit's time, and the period's begin and end.
+/// What an overview tells beside fields of the image, in seconds since 1970-01-01 00:00 UTC.
 #[derive(Clone, Copy, Debug, PartialEq, Eq)]
 pub struct Times {
+    /// The unit's time: its last-kept minute.
     pub now: u32,
+    /// The first second of the oldest day, 0 where there is no day.
     pub begin: u32,
+    /// The unit's time, 0 where there is no day.
     pub end: u32,
 }
 
@@ -53,33 +57,49 @@ pub struct Times {
 /// through for each day.
 #[derive(Clone, Copy, Debug, PartialEq, Eq)]
 pub struct DayOutline {
+    /// The day's first second.
     pub date: u32,
+    /// The odometer at the day's begin, in km.
     pub odometer: u32,
+    /// The place in the image of its first change word.
     pub words_place: u32,
+    /// How many change words it has.
     pub words: u32,
+    /// How many insertions touch it.
     pub insertions: u32,
+    /// How many places it has.
     pub places: u32,
+    /// The same counts of the dates beside it.
     pub counts: Counts,
 }
 
 /// How many faults, events and over speedings there are; the begin of the first over speeding, and their number.
 #[derive(Clone, Copy, Debug, PartialEq, Eq)]
 pub struct EventOutline {
+    /// How many faults there are, 0 to 24.
     pub faults: u32,
+    /// How many events there are, 0 to 60.
     pub events: u32,
+    /// How many over speedings there are, 0 to 10.
     pub overs: u32,
+    /// The begin of the first over speeding in seconds, as the image has it.
     pub first_over: u32,
+    /// Their number as the image has it, 0 to 255.
     pub over_count: u32,
 }
 
 /// The message that an outline is of.
 #[derive(Clone, Copy, Debug, PartialEq, Eq)]
 pub enum Plan {
+    /// The overview, with these times.
     Overview(Times),
+    /// A day.
     Day(DayOutline),
+    /// Events and faults.
     Events(EventOutline),
-    /// How many blocks there are.
+    /// Detailed speed: how many blocks there are.
     Speed(u32),
+    /// Technical data.
     Technical,
 }
 
@@ -140,6 +160,10 @@ impl Outline {
 
     /// Reads at most 252 bytes of the message, from a place on; none at its end and behind it. Of a unit that changed
     /// since, as one that tells nothing may, it gives as many bytes as the outline says.
+    ///
+    /// # Errors
+    ///
+    /// `Failed` where the unit failed.
     pub fn read<M: Medium>(
         &self,
         unit: &mut M,
@@ -150,7 +174,7 @@ impl Outline {
         requires outlines { IfSome (M.state unit.old).image (Outlines self.now) }
         ensures piece { OnOk result (IfSome (M.state unit.old).image
             (λ x. IsPiece x (asked self.now) from (Some (length_of self.now)) out.new.items)) }
-        ensures fits { OnOk result (length out.new.items ≡ min 252 (length_of self.now - from)) }
+        ensures fits { OnOk result (length out.new.items ≡ min WHOLE_MOST (length_of self.now - from)) }
         ensures reads { ReadsIfAny (M.state unit.old) (M.state unit.new) (is_err result) }
     {
         let mut window = Window::new(from);
@@ -160,7 +184,7 @@ impl Outline {
         Ok(())
     }
 
-    // The bytes of the message, by its numbers.
+    /// The bytes of the message, by its numbers.
     fn total(&self) -> u32
         ensures len { result ≡ length_of self.now }
         ensures some { 2 ≤ result }
@@ -175,16 +199,16 @@ impl Outline {
         }
     }
 
-    // How many bytes a piece has.
+    /// How many bytes a piece has.
     fn due(&self, from: u32) -> usize
-        ensures due { result ≡ min 252 (length_of self.now - from) }
-        ensures few { result ≤ 252 }
+        ensures due { result ≡ min WHOLE_MOST (length_of self.now - from) }
+        ensures few { result ≤ WHOLE_MOST }
     {
         let len = self.len();
         (len - len.min(from)).min(ROOM as u32) as usize
     }
 
-    // The bytes of the message pass by.
+    /// The bytes of the message pass by.
     fn pass<M: Medium>(&self, unit: &mut M, window: &mut Window) -> Result<(), Failed>
         requires unit { (M.state unit.old).size ≡ IMAGE_SIZE }
         ensures passed { OnOk result (IfSome (M.state unit.old).image
@@ -201,7 +225,7 @@ impl Outline {
     }
 }
 
-// How many bytes the message of a day has.
+/// How many bytes the message of a day has.
 fn day_total(day: DayOutline) -> u32
     requires { IsDayInRange day }
     ensures len { result ≡ length_of (Plan.Day day) }
@@ -211,7 +235,7 @@ fn day_total(day: DayOutline) -> u32
     DAY_LENGTH + INSERTION * day.insertions + 2 * day.words + PLACE * day.places
 }
 
-// How many bytes the message of events and faults has.
+/// How many bytes the message of events and faults has.
 fn event_total(events: EventOutline) -> u32
     requires { IsEventInRange events }
     ensures len { result ≡ length_of (Plan.Events events) }
@@ -221,7 +245,7 @@ fn event_total(events: EventOutline) -> u32
     EVENTS_LENGTH + FAULT * events.faults + EVENT * events.events + OVER * events.overs
 }
 
-// How many bytes the message of detailed speed has.
+/// How many bytes the message of detailed speed has.
 fn speed_total(blocks: u32) -> u32
     requires { blocks ≤ speed_ring.count }
     ensures len { result ≡ length_of (Plan.Speed blocks) }

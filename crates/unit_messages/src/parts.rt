@@ -3,19 +3,22 @@ ghost use Rattle.std.specs.Prelude.{◌≡◌, ◌≤◌, ◌<◌, ◌+◌, ◌*
 ghost use Rattle.card_layout.specs.Images.{bytes_at, number_at};
 ghost use Rattle.unit_messages.specs.Parts.{within, counted_end, part_end, parts_end, most, most_of};
 
-/// A part of a message: a field of so many bytes, or entries of one size behind a count of one byte or of two.
+use byteorder::{BigEndian, ByteOrder};
+use link_model::lengths::MESSAGE_HEADER;
+
+/// A part of a message; each size is in bytes.
 #[derive(Clone, Copy, Debug, PartialEq, Eq)]
 pub enum Part {
+    /// A field of this size.
     Field(u32),
+    /// Entries of this size, behind their count in one byte.
     Few(u32),
+    /// Entries of this size, behind their count in two bytes.
     Many(u32),
 }
 
-/// The first byte of a message; its number follows.
-pub const SERVICE: u8 = 0x76;
-
-/// How many bytes stand before a message's first part.
-pub const HEADER: usize = 2;
+/// How many bytes stand before a message's first part: 76 and the number.
+pub const HEADER: usize = MESSAGE_HEADER as usize;
 
 /// Certificates of the state and the unit, vehicle, registration, the unit's time, the period's begin and end, the
 /// slots' cards, the last download, locks, controls, signature.
@@ -69,7 +72,7 @@ pub const TECHNICAL_PARTS: [Part; 4] = [
     Part::Field(128),
 ];
 
-// The number in one byte.
+/// The number in one byte.
 fn one_in(bytes: &[u8], place: usize) -> u8
     requires { place < length bytes.now }
     ensures { result ≡ number_at bytes.now place 1 }
@@ -82,7 +85,7 @@ pub fn two_in(bytes: &[u8], place: usize) -> u16
     requires { place + 2 ≤ length bytes.now }
     ensures { result ≡ number_at bytes.now place 2 }
 {
-    u16::from_be_bytes([bytes[place], bytes[place + 1]])
+    BigEndian::read_u16(cut(bytes, place, 2))
 }
 
 /// The number in four bytes, the highest first.
@@ -90,12 +93,7 @@ pub fn four_in(bytes: &[u8], place: usize) -> u32
     requires { place + 4 ≤ length bytes.now }
     ensures { result ≡ number_at bytes.now place 4 }
 {
-    u32::from_be_bytes([
-        bytes[place],
-        bytes[place + 1],
-        bytes[place + 2],
-        bytes[place + 3],
-    ])
+    BigEndian::read_u32(cut(bytes, place, 4))
 }
 
 /// So many bytes from a place on.
@@ -107,7 +105,7 @@ pub fn cut(b: &[u8], place: usize, len: usize) -> &[u8]
     &b[place..][..len]
 }
 
-// An end that lies inside the bytes.
+/// An end that lies inside the bytes.
 fn within(bytes: &[u8], end: usize) -> Option<usize>
     ensures end { result ≡ within bytes.now end }
     ensures inside { IfSome result (λ found. (found ≡ end) × (found ≤ length bytes.now)) }
@@ -115,7 +113,7 @@ fn within(bytes: &[u8], end: usize) -> Option<usize>
     if end <= bytes.len() { Some(end) } else { None }
 }
 
-// Where entries end whose count of one byte stands at a place.
+/// Where entries end whose count of one byte stands at a place.
 fn few_end(bytes: &[u8], at: usize, size: u32) -> Option<usize>
     requires { at ≤ length bytes.now }
     ensures end { result ≡ counted_end bytes.now at 1 size }
@@ -129,7 +127,7 @@ fn few_end(bytes: &[u8], at: usize, size: u32) -> Option<usize>
     within(bytes, at + 1 + count as usize * size as usize)
 }
 
-// Where entries end whose count of two bytes stands at a place.
+/// Where entries end whose count of two bytes stands at a place.
 fn many_end(bytes: &[u8], at: usize, size: u32) -> Option<usize>
     requires { at ≤ length bytes.now }
     ensures end { result ≡ counted_end bytes.now at 2 size }
@@ -143,7 +141,7 @@ fn many_end(bytes: &[u8], at: usize, size: u32) -> Option<usize>
     within(bytes, at + 2 + count as usize * size as usize)
 }
 
-// Where a part ends that begins at a place; `None` where the bytes end before it.
+/// Where a part ends that begins at a place; `None` where the bytes end before it.
 fn part_end(bytes: &[u8], at: usize, part: &Part) -> Option<usize>
     requires { at ≤ length bytes.now }
     ensures end { result ≡ part_end bytes.now at part.now }
@@ -157,7 +155,7 @@ fn part_end(bytes: &[u8], at: usize, part: &Part) -> Option<usize>
     }
 }
 
-// The part at an index.
+/// The part at an index.
 fn part_at(parts: &[Part], index: usize) -> Part
     requires { index < length parts.now }
     ensures { (d : Part) → result ≡ slice_index_or parts.now index d }

@@ -8,17 +8,22 @@ ghost use Rattle.unit_messages.specs.Parts.{parts_end, read_as, words_place, wor
 ghost use Rattle.unit_messages.specs.Parts.{numbered_at_front, at_front};
 
 use crate::parts::{
-    DAY_PARTS, EVENT_PARTS, HEADER, OVERVIEW_PARTS, Part, SERVICE, SPEED_PARTS, TECHNICAL_PARTS,
-    four_in, parts_end, two_in,
+    DAY_PARTS, EVENT_PARTS, HEADER, OVERVIEW_PARTS, Part, SPEED_PARTS, TECHNICAL_PARTS, four_in,
+    parts_end, two_in,
 };
 use link_model::Request;
+use link_model::services::{
+    DAY_NUMBER, DAY_SECONDS, EVENTS_NUMBER, MESSAGE, OVERVIEW_NUMBER, SPEED_NUMBER,
+    TECHNICAL_NUMBER,
+};
 use tacho_types::{Registration, TimeReal, read_registration, read_time};
 
-/// A message at the front of bytes: the request that it answers, and its length in bytes with the two in front of its
-/// parts.
+/// A message at the front of bytes. Its length counts 76 and the number, too.
 #[derive(Clone, Copy, Debug, PartialEq, Eq)]
 pub struct MessageRead {
+    /// The request that it answers.
     pub request: Request,
+    /// Its length in bytes.
     pub len: u32,
 }
 
@@ -26,13 +31,16 @@ pub struct MessageRead {
 #[derive(Clone, Copy, Debug, PartialEq, Eq)]
 pub struct BadMessage(pub u32);
 
-/// What an overview tells: the vehicle's registration, the unit's time, and the first and the last time of the period
-/// that can be downloaded.
+/// What an overview tells: the vehicle, the unit's time, and the period that can be downloaded.
 #[derive(Clone, Copy, Debug, PartialEq, Eq)]
 pub struct OverviewRead {
+    /// The vehicle's registration.
     pub registration: Registration,
+    /// The unit's time.
     pub now: TimeReal,
+    /// The begin of the period.
     pub begin: TimeReal,
+    /// The end of the period.
     pub end: TimeReal,
 }
 
@@ -54,31 +62,33 @@ pub fn read_message(b: &[u8]) -> Result<MessageRead, BadMessage>
     }
 }
 
-// The message at the front.
+/// The message at the front.
 fn at_front(b: &[u8]) -> Option<MessageRead>
     ensures { result ≡ at_front b.now }
 {
-    if b.len() < HEADER || b[0] != SERVICE {
+    if b.len() < HEADER || b[0] != MESSAGE {
         return None;
     }
     let number = b[1];
     numbered_at_front(b, number)
 }
 
+/// The message of this number at the front.
 fn numbered_at_front(b: &[u8], number: u8) -> Option<MessageRead>
     requires { 2 ≤ length b.now }
     ensures { result ≡ numbered_at_front b.now number }
 {
     match number {
-        1 => read_as(Request::Overview, parts_end(b, &OVERVIEW_PARTS)),
-        2 => day_at_front(b),
-        3 => read_as(Request::Events, parts_end(b, &EVENT_PARTS)),
-        4 => read_as(Request::Speed, parts_end(b, &SPEED_PARTS)),
-        5 => read_as(Request::Technical, parts_end(b, &TECHNICAL_PARTS)),
+        OVERVIEW_NUMBER => read_as(Request::Overview, parts_end(b, &OVERVIEW_PARTS)),
+        DAY_NUMBER => day_at_front(b),
+        EVENTS_NUMBER => read_as(Request::Events, parts_end(b, &EVENT_PARTS)),
+        SPEED_NUMBER => read_as(Request::Speed, parts_end(b, &SPEED_PARTS)),
+        TECHNICAL_NUMBER => read_as(Request::Technical, parts_end(b, &TECHNICAL_PARTS)),
         _ => None,
     }
 }
 
+/// A message that is read, by where its parts end.
 fn read_as(request: Request, end: Option<usize>) -> Option<MessageRead>
     requires { IfSome end (λ end. end < 2 ^ 32) }
     ensures { result ≡ read_as request end }
@@ -90,7 +100,7 @@ fn read_as(request: Request, end: Option<usize>) -> Option<MessageRead>
     })
 }
 
-// The message of a day at the front.
+/// The message of a day at the front.
 fn day_at_front(b: &[u8]) -> Option<MessageRead>
     requires { 2 ≤ length b.now }
     ensures { result ≡ day_at_front b.now (parts_end b.now DAY_PARTS 2) }
@@ -101,7 +111,7 @@ fn day_at_front(b: &[u8]) -> Option<MessageRead>
     }
 }
 
-// The message of a day whose parts end there.
+/// The message of a day whose parts end there.
 fn day_that_ends(b: &[u8], end: usize) -> Option<MessageRead>
     requires some { 2 ≤ length b.now }
     requires ends { parts_end b.now DAY_PARTS 2 ≡ Some end }
@@ -110,14 +120,14 @@ fn day_that_ends(b: &[u8], end: usize) -> Option<MessageRead>
 {
     let (place, count) = words_of(b);
     let date = four_in(b, HEADER);
-    if date % 86400 == 0 && are_words(b, place as usize, count as usize) {
+    if date % DAY_SECONDS == 0 && are_words(b, place as usize, count as usize) {
         read_as(Request::Day(date), Some(end))
     } else {
         None
     }
 }
 
-// The place of a day's first word, and how many words it has.
+/// The place of a day's first word, and how many words it has.
 fn words_of(b: &[u8]) -> (u32, u16)
     requires some { 2 ≤ length b.now }
     requires ends { (end : ℕ) × (parts_end b.now DAY_PARTS 2 ≡ Some end) }
@@ -132,7 +142,7 @@ fn words_of(b: &[u8]) -> (u32, u16)
     (place, count)
 }
 
-// Whether each of so many words from a place on stands in a day.
+/// Whether each of so many words from a place on stands in a day.
 fn are_words(b: &[u8], place: usize, count: usize) -> bool
     requires { place + 2 * count ≤ length b.now }
     ensures { result ≡ are_words (words_at b.now place count) }

@@ -1,8 +1,10 @@
-//! The messages of a unit's image, piece after piece, of a unit that is judged first (Annex IB, Appendix 7, 2.2.6).
+//! The messages of a unit's image, whole or piece after piece, of a unit that is judged first (Annex IB, Appendix 7,
+//! 2.2.6): for callers who have no session. A session judges its unit once, and reads by an outline.
 ghost use Rattle.unit_model.specs.declared.layout.TheConstants.{IMAGE_SIZE};
 ghost use Rattle.std.specs.Prelude.{◌≡◌, ◌≤◌, ◌<◌, ◌+◌, IfOk, IfErr, IfNone, OnOk, IfSome, Some, is_some, true};
 ghost use Rattle.std.specs.Prelude.{option_map, ◌++◌, ◌-◌, min, length};
 ghost use Rattle.tach_media.specs.Medium.{Reads};
+ghost use Rattle.link_model.specs.declared.lengths.TheConstants.{WHOLE_MOST};
 ghost use Rattle.unit_model.specs.Decoding.{Decodes, first_bad_place};
 ghost use Rattle.unit_messages.specs.Faults.{IfBadPiece, piece_failed, IfBadMessage, message_failed};
 ghost use Rattle.unit_minutes.specs.Reading.{ReadsIfAny};
@@ -88,10 +90,10 @@ impl From<UnitFault> for PieceFault {
     }
 }
 
-/// Reads at most 252 bytes of the message that answers a request, from a place on, and tells the message's length; at
-/// its end and behind it there are none. `None` exactly where there is no such message: for a day that is not recorded.
-/// Then `out` is as it was. The unit is judged first; nothing is written to it. Of a unit that tells nothing there are
-/// as many bytes as the length that is told says.
+/// Reads at most 252 bytes of the message that answers a request, from a place on, and tells the message's length in
+/// bytes; at its end and behind it there are none. `None` exactly where there is no such message: for a day that is not
+/// recorded. Then `out` is as it was. The unit is judged first; nothing is written to it. Of a unit that tells nothing
+/// there are as many bytes as the length that is told says.
 ///
 /// # Errors
 ///
@@ -105,7 +107,7 @@ pub fn piece<M: Medium>(
     requires { (M.state unit.old).size ≡ IMAGE_SIZE }
     ensures piece { IfOk result (λ found. IfSome (M.state unit.old).image (λ x. IsPiece x request.now from found
         out.new.items)) }
-    ensures fits { IfOk result (λ found. IfSome found (λ len. length out.new.items ≡ min 252 (len - from))) }
+    ensures fits { IfOk result (λ found. IfSome found (λ len. length out.new.items ≡ min WHOLE_MOST (len - from))) }
     ensures none { IfOk result (λ found. IfNone found (out.new ≡ out.old)) }
     ensures decodes { OnOk result (IfSome (M.state unit.old).image Decodes) }
     ensures bad { IfErr result (λ fault. IfBadPiece fault (λ p. IfSome (M.state unit.old).image
@@ -120,7 +122,7 @@ pub fn piece<M: Medium>(
     }
 }
 
-// A piece of a message, and the message's length.
+/// A piece of a message, and the message's length.
 fn piece_of<M: Medium>(
     outline: &Outline,
     unit: &mut M,
@@ -131,7 +133,7 @@ fn piece_of<M: Medium>(
     requires outlines { IfSome (M.state unit.old).image (Outlines outline.now) }
     ensures piece { IfOk result (λ found. IfSome (M.state unit.old).image (λ x. IsPiece x (asked outline.now) from found
         out.new.items)) }
-    ensures fits { IfOk result (λ found. IfSome found (λ len. length out.new.items ≡ min 252 (len - from))) }
+    ensures fits { IfOk result (λ found. IfSome found (λ len. length out.new.items ≡ min WHOLE_MOST (len - from))) }
     ensures some { IfOk result (λ found. is_some found ≡ true) }
     ensures failed { IfErr result (λ fault. fault ≡ PieceFault.Failed) }
     ensures reads { ReadsIfAny (M.state unit.old) (M.state unit.new) (piece_failed result) }
@@ -169,7 +171,7 @@ pub fn message<M: Medium>(
     }
 }
 
-// The whole message of an outline.
+/// The whole message of an outline.
 fn whole<M: Medium>(
     alloc: Global,
     outline: &Outline,
@@ -194,7 +196,7 @@ fn whole<M: Medium>(
     Ok(Some(bytes))
 }
 
-// Bytes with a piece more.
+/// Bytes with a piece more.
 fn append(bytes: &mut Vec<u8>, piece: &[u8]) -> Result<(), MessageFault>
     ensures items { OnOk result (bytes.new.items ≡ bytes.old.items ++ piece.now) }
     ensures memory { IfErr result (λ fault. fault ≡ MessageFault.Memory) }

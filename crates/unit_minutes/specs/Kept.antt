@@ -11,9 +11,11 @@ use Rattle.unit_minutes.specs.declared.notes.Notes.{Notes}
 use Rattle.unit_minutes.specs.Coming.{SlotBits, Coming}
 use Rattle.unit_minutes.specs.Plans.{keeping}
 
+-- a minute is CREW where both slots have a card
 abbrev pub is_crew : KeptMinute → Bool
 is_crew k = k.driver.present && k.codriver.present
 
+-- as a minute of the unit
 abbrev pub kept_minute : KeptMinute → UnitMinute
 kept_minute k = record { minute = k.minute; driver = k.driver; codriver = k.codriver; crew = is_crew k }
 
@@ -21,6 +23,7 @@ kept_minute k = record { minute = k.minute; driver = k.driver; codriver = k.codr
 abbrev pub bits_by : Activity → (present crew : Bool) → ℕ
 bits_by act present crew = 8 * bit crew + 4 * bit (not present) + activity_number act
 
+-- so of a slot's state, in a minute that is CREW or not
 abbrev pub bits_of : State → Bool → ℕ
 bits_of s crew = bits_by s.act s.present crew
 

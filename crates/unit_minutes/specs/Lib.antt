@@ -7,6 +7,7 @@ pub mod Mends
 pub mod Today
 pub mod Reading
 pub mod DaysWith
+pub mod Writes
 pub mod Plans
 pub mod Beside
 pub mod DayOdometers

@@ -5,7 +5,7 @@ use Rattle.std.specs.Prelude.{take, drop, length, replicate, Option, Some, None}
 use Rattle.std.specs.Int.{to_be_bytes, w16}
 use Rattle.tach_media.specs.Medium.{put, bytes_at}
 use Rattle.tach_media.specs.Plan.{Piece, piece}
-use Rattle.unit_model.specs.declared.layout.TheConstants.{DAY_COUNT, OWED, SPARE_ROWS, INSERTIONS}
+use Rattle.unit_model.specs.declared.layout.TheConstants.{DAY_COUNT, OWED, OWED_ROWS, SPARE_ROWS, INSERTIONS}
 use Rattle.unit_model.specs.Decoding.{Decodes, cell_place, cell_minute, cell_word}
 use Rattle.unit_model.specs.Image.{slot_place, last_kept, unit_days, recorded}
 use Rattle.unit_minutes.specs.Image.{Notes, IsFound, IsFoundBy}
@@ -24,7 +24,7 @@ pub record SameButRowsAndSlots (x c : List ℕ) : Type 0 where
 
 -- in the owed rows nothing but the minutes of cells may have changed
 pub record SameButMinutes (x c : List ℕ) : Type 0 where
-  pub heads : (r : ℕ) → r < 8 → row_head c r ≡ row_head x r
+  pub heads : (r : ℕ) → r < OWED_ROWS → row_head c r ≡ row_head x r
   pub words : (n : ℕ) → n < 32 → cell_word c n ≡ cell_word x n
 
 -- the gate of the later day, where one was found, is shut
@@ -77,10 +77,11 @@ shut (Some s) x = put (slot_place s) (replicate 4 0) x
 abbrev pub cut_to : (index stored count : ℕ) → List ℕ → List ℕ
 cut_to i stored count x = if stored == count then x else with_count i count x
 
--- the days after a `mend`, and the image
+-- an image after a `mend` of its days
 abbrev pub cut_back : Notes → List ℕ → List ℕ
 cut_back j x = if j.kept == 0 then shut j.stray x else cut_to j.index j.stored j.count (shut j.stray x)
 
+-- and after that of the owed rows and then of the days
 abbrev pub mended : Notes → List ℕ → List ℕ
 mended j x = cut_back j (cells_emptied j.kept 32 x)
 

@@ -9,6 +9,7 @@ use Rattle.unit_model.specs.Image.{day_ring, slot_place}
 use Rattle.unit_minutes.specs.declared.notes.Notes.{Notes}
 use Rattle.unit_minutes.specs.Coming.{Coming, bare_bits, changes_to}
 use Rattle.unit_minutes.specs.Minute.{words_on, new_head, further}
+use Rattle.unit_minutes.specs.Writes.{keep_most}
 use Rattle.unit_model.specs.Writing.{free_place}
 
 -- a plan of so many writes at most in a unit, with room for these more
@@ -55,6 +56,7 @@ beginning i m = counted i 2 (further m) ++ mark m.minute
 abbrev pub renewing_at : Notes → Room → Coming → List Piece
 renewing_at j room m = turning j m.odometer ++ (placing_pieces day_ring room (new_head m) ++ beginning room.index m)
 
+-- so by an image, which tells where the new day's slot is
 abbrev pub renewing : Notes → Coming → (x : List ℕ) → List Piece
 renewing j m x = renewing_at j (room_in day_ring x) m
 
@@ -62,6 +64,6 @@ renewing j m x = renewing_at j (room_in day_ring x) m
 abbrev pub keeping : Notes → Coming → (x : List ℕ) → List Piece
 keeping j m x = if m.minute / 1440 == j.kept / 1440 then going j m else renewing j m x
 
--- and how many they are at most
+-- and how many they are at most: seven on the last-kept minute's day
 abbrev pub most_kept : (kept minute : ℕ) → ℕ
-most_kept kept minute = if minute / 1440 == kept / 1440 then 7 else 12
+most_kept kept minute = if minute / 1440 == kept / 1440 then 7 else keep_most

@@ -1,3 +1,4 @@
+//! The state of a slot as the bits of its word.
 ghost use Rattle.std.specs.Prelude.{◌≡◌, ◌<◌};
 ghost use Rattle.activity_codec.specs.Words.{activity_number};
 ghost use Rattle.unit_minutes.specs.Kept.{bits_of, is_crew, slot_bits};
@@ -19,7 +20,7 @@ pub const BARE: SlotBits = SlotBits {
     codriver: 4,
 };
 
-// Whether both slots have a present card.
+/// Whether both slots have a present card.
 fn is_crew(kept: &KeptMinute) -> bool
     ensures { result ≡ is_crew kept.now }
 {
@@ -39,7 +40,7 @@ pub fn slot_bits(kept: &KeptMinute) -> SlotBits
     }
 }
 
-// The bits of a state in a word: CREW, no card, activity.
+/// The bits of a state in a word: CREW, no card, activity.
 fn bits_of(state: State, crew: bool) -> u32
     ensures bits { result ≡ bits_of state crew }
     ensures short { result < 16 }
@@ -49,6 +50,7 @@ fn bits_of(state: State, crew: bool) -> u32
     crew_bit + absent_bit + activity_bits(state.act)
 }
 
+/// The bits of an activity.
 fn activity_bits(act: Activity) -> u32
     ensures bits { result ≡ activity_number act }
     ensures short { result < 4 }

@@ -1,4 +1,6 @@
+//! The minute that comes, as it is written.
 ghost use Rattle.std.specs.Prelude.{◌≡◌, ◌≤◌};
+ghost use Rattle.activity_codec.specs.declared.day.TheConstants.{DAY_MINUTES};
 ghost use Rattle.unit_model.specs.declared.layout.TheConstants.{HIGHEST_ODOMETER, LAST_MINUTE};
 ghost use Rattle.unit_minutes.specs.Coming.{IsComing};
 ghost use Rattle.unit_minutes.specs.Kept.{coming_of};
@@ -16,7 +18,7 @@ pub struct Coming {
 
 /// A minute that is kept, as it is written.
 pub fn coming_of(kept: &KeptMinute) -> Coming
-    requires low { 1440 ≤ kept.now.minute }
+    requires low { DAY_MINUTES ≤ kept.now.minute }
     requires small { kept.now.minute ≤ LAST_MINUTE }
     requires odometer { kept.now.odometer.0 ≤ HIGHEST_ODOMETER }
     ensures coming { result ≡ coming_of kept.now }

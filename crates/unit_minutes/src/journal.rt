@@ -1,19 +1,20 @@
+//! The journal of a unit: what it remembers of the image, and how it keeps a minute and mends the unit.
 ghost use Rattle.std.specs.Prelude.{IfErr, Some, None, ◌≡◌, ◌≤◌, ◌<◌, ◌+◌, ◌/◌, min, length, IfOk, OnOk};
 ghost use Rattle.std.specs.Prelude.{OnErr, IfSome, is_err, option_map, true};
+ghost use Rattle.activity_codec.specs.declared.day.TheConstants.{DAY_MINUTES};
 ghost use Rattle.unit_model.specs.declared.layout.TheConstants.{DAY_SLOTS, HIGHEST_ODOMETER, IMAGE_SIZE, LAST_MINUTE};
 ghost use Rattle.tach_media.specs.Medium.{LeavesOnly, Reads, HasCause};
 ghost use Rattle.unit_model.specs.Image.{day_ring, IsUnit};
 ghost use Rattle.unit_minutes.specs.Coming.{IsComing};
 ghost use Rattle.unit_minutes.specs.Image.{IsNotes, Agrees};
-ghost use Rattle.unit_minutes.specs.Keeping.{IsKeeping};
 ghost use Rattle.unit_minutes.specs.Minute.{notes_on, notes_begun, notes_after};
 ghost use Rattle.tach_media.specs.Plan.{PutsAll, PutsBy, more, none};
 ghost use Rattle.unit_minutes.specs.Plans.{going, turning, renewing, keeping, most_kept};
 ghost use Rattle.unit_minutes.specs.Mends.{IsMendable, IsMending, HasNothingLater, mended};
 ghost use Rattle.unit_minutes.specs.Mends.{mending};
-ghost use Rattle.unit_minutes.specs.Kept.{kept_minute, keeping_of, HasDaysBetween};
 ghost use Rattle.gated_ring.specs.Ring.{pointer, taken};
-ghost use Rattle.unit_minutes.specs.Calls.{UnitKept, UnitMended};
+ghost use Rattle.unit_minutes.specs.Writes.{keep_most, mend_most};
+ghost use Rattle.unit_minutes.specs.Calls.{KeepsMinute, MinuteMayBeKept, UnitIsReady, UnitMended};
 
 mod owing;
 mod reading;
@@ -26,6 +27,7 @@ use crate::notes::Notes;
 use crate::plan::{Writing, add_changes, add_count, add_further, add_new};
 use crate::today::{day_ring, index_of, later_day, read_today, recorded_days};
 use crate::words::new_head;
+use activity_codec::DAY_MINUTES;
 use gated_ring::Ring;
 pub use reading::UnitDay;
 use std::marker::Model;
@@ -83,7 +85,7 @@ impl Journal {
         }
     }
 
-    // Reads the journal of a unit that was judged.
+    /// Reads the journal of a unit that was judged.
     fn read<M: Medium>(unit: &mut M, judged: Judged) -> Result<Journal, UnitFault>
         requires works { (M.state unit.old).works ≡ true }
         requires unit { (M.state unit.old).size ≡ IMAGE_SIZE }
@@ -132,11 +134,11 @@ impl Journal {
         Odometer(self.notes.odometer)
     }
 
-    // The writes of a minute on the day of the last-kept one.
+    /// The writes of a minute on the day of the last-kept one.
     fn go_on<M: Medium>(&mut self, unit: &mut M, coming: Coming) -> Result<(), Failed>
         requires unit { IsUnit (M.state unit.old) }
         requires coming { IsComing coming }
-        requires same { coming.minute / 1440 ≡ self.old.kept / 1440 }
+        requires same { coming.minute / DAY_MINUTES ≡ self.old.kept / DAY_MINUTES }
         requires later { self.old.kept < coming.minute }
         ensures notes { OnOk result (self.new ≡ notes_on self.old coming) }
         ensures same { OnErr result (self.new ≡ self.old) }
@@ -153,14 +155,15 @@ impl Journal {
         Ok(())
     }
 
-    // The writes before a new day: the odometer, and what closes the day of the last-kept minute where it isn't at its
-    // end.
+    /// The writes before a new day: the odometer, and what closes the day of the last-kept minute where it isn't at its
+    /// end.
     fn turning(&self, odometer: u32) -> Writing
         requires { odometer ≤ HIGHEST_ODOMETER }
         ensures plan { result ≡ more (none 0 IMAGE_SIZE) (turning self.now odometer) }
         ensures length { length result.pieces ≤ 4 }
         ensures shape { IsNotes self.now }
     {
+        // Read for the proof alone: so the notes have their ranges.
         let _days = &self.days;
         let notes = &self.notes;
         let mut plan = Writing::new(0, IMAGE_SIZE);
@@ -168,8 +171,8 @@ impl Journal {
         if notes.kept == 0 {
             return plan;
         }
-        let next = notes.kept % 1440 + 1;
-        if next == 1440 {
+        let next = notes.kept % DAY_MINUTES + 1;
+        if next == DAY_MINUTES {
             return plan;
         }
         let count = add_changes(&mut plan, notes.index, notes.count, next, notes.bits, BARE);
@@ -177,7 +180,7 @@ impl Journal {
         plan
     }
 
-    // Makes the writes of a minute on a later day.
+    /// Makes the writes of a minute on a later day.
     fn renew<M: Medium>(&mut self, unit: &mut M, coming: Coming) -> Result<(), Failed>
         requires unit { IsUnit (M.state unit.old) }
         requires known { IfSome (M.state unit.old).image (λ x. pointer day_ring x < DAY_SLOTS) }
@@ -187,7 +190,7 @@ impl Journal {
         ensures kept { OnOk result ((self.new.kept ≡ coming.minute) × (self.new.odometer ≡ coming.odometer)) }
         ensures same { OnErr result (self.new ≡ self.old) }
         ensures shape { IsNotes self.old }
-        ensures puts { PutsBy (M.state unit.old) (M.state unit.new) (is_err result) 5 12 (renewing self.old coming) }
+        ensures puts { PutsBy (M.state unit.old) (M.state unit.new) (is_err result) 5 keep_most (renewing self.old coming) }
     {
         let head = new_head(coming);
         let room = self.days.room(unit)?;
@@ -200,7 +203,7 @@ impl Journal {
         Ok(())
     }
 
-    // Makes the writes of a minute.
+    /// Makes the writes of a minute.
     fn write_minute<M: Medium>(&mut self, unit: &mut M, coming: Coming) -> Result<(), Failed>
         requires unit { IsUnit (M.state unit.old) }
         requires known { IfSome (M.state unit.old).image (λ x. pointer day_ring x < DAY_SLOTS) }
@@ -213,7 +216,7 @@ impl Journal {
         ensures puts { PutsBy (M.state unit.old) (M.state unit.new) (is_err result) 3
             (most_kept self.old.kept coming.minute) (keeping self.old coming) }
     {
-        if coming.minute / 1440 == self.notes.kept / 1440 {
+        if coming.minute / DAY_MINUTES == self.notes.kept / DAY_MINUTES {
             return self.go_on(unit, coming);
         }
         self.renew(unit, coming)
@@ -225,23 +228,15 @@ impl Journal {
     /// minute.
     ///
     /// A stop at a moment of the call leaves the days before, their oldest gone where a further day begins, or the days
-    /// with the minute: the last-kept minute tells which. After an error the journal is as it was. It begins at most
-    /// seven writes, or twelve where it begins a day.
+    /// with the minute: the last-kept minute tells which. It begins at most seven writes, or twelve where it begins a day.
+    ///
+    /// # Errors
+    ///
+    /// `Failed` where the medium failed: then the minute may be there or not, and the journal is as it was.
     pub fn keep<M: Medium>(&mut self, unit: &mut M, kept: &KeptMinute) -> Result<(), Failed>
-        requires unit { IsUnit (M.state unit.old) }
-        requires agrees { IfSome (M.state unit.old).image (Agrees self.old) }
-        requires low { 1440 ≤ kept.now.minute }
-        requires later { self.old.kept < kept.now.minute }
-        requires small { kept.now.minute ≤ LAST_MINUTE }
-        requires odometer { kept.now.odometer.0 ≤ HIGHEST_ODOMETER }
-        ensures kept { OnOk result (UnitKept kept.now self.new (M.state unit.old) (M.state unit.new)) }
-        ensures same { OnErr result (self.new ≡ self.old) }
-        ensures puts { PutsBy (M.state unit.old) (M.state unit.new) (is_err result) 3
-            (most_kept self.old.kept kept.now.minute) (keeping_of self.old kept.now) }
-        ensures moments { LeavesOnly (M.state unit.old) (M.state unit.new)
-            (IsKeeping (kept_minute kept.now) kept.now.odometer.0) }
-        ensures words { LeavesOnly (M.state unit.old) (M.state unit.new) (HasDaysBetween kept.now) }
-        ensures cause { HasCause (M.state unit.old) (M.state unit.new) (is_err result) }
+        requires ready { UnitIsReady self.old (M.state unit.old) }
+        requires may { MinuteMayBeKept kept.now self.old }
+        ensures { KeepsMinute kept.now result self.old self.new (M.state unit.old) (M.state unit.new) }
     {
         self.write_minute(unit, coming_of(kept))
     }
@@ -261,10 +256,10 @@ impl Journal {
         ensures same { OnErr result (self.new ≡ self.old) }
         ensures written { OnOk result ((M.state unit.new).image ≡ option_map (mended self.old)
             (M.state unit.old).image) }
-        ensures puts { PutsBy (M.state unit.old) (M.state unit.new) (is_err result) 0 34 (mending self.old) }
+        ensures puts { PutsBy (M.state unit.old) (M.state unit.new) (is_err result) 0 mend_most (mending self.old) }
         ensures moments { LeavesOnly (M.state unit.old) (M.state unit.new) (IsMending self.old) }
         ensures cause { HasCause (M.state unit.old) (M.state unit.new) (is_err result) }
-        ensures most { (M.state unit.new).clock ≤ (M.state unit.old).clock + 34 }
+        ensures most { (M.state unit.new).clock ≤ (M.state unit.old).clock + mend_most }
     {
         self.write_mends(unit)?;
         self.notes.stray = None;
@@ -272,14 +267,15 @@ impl Journal {
         Ok(())
     }
 
-    // Makes the writes of a `mend`: the cells, the gate, the count.
+    /// Makes the writes of a `mend`: the cells, the gate, the count.
     fn write_mends<M: Medium>(&self, unit: &mut M) -> Result<(), Failed>
         requires unit { IsUnit (M.state unit.old) }
-        ensures puts { PutsBy (M.state unit.old) (M.state unit.new) (is_err result) 0 34 (mending self.now) }
+        ensures puts { PutsBy (M.state unit.old) (M.state unit.new) (is_err result) 0 mend_most (mending self.now) }
         ensures idle { OnOk result (IfSome (M.state unit.old).image
             (λ x. HasNothingLater self.now x → (M.state unit.new).clock ≡ (M.state unit.old).clock)) }
         ensures shape { IsNotes self.now }
     {
+        // Read for the proof alone: so the notes have their ranges.
         let _days = &self.days;
         let mut plan = late_cells(unit, self.notes.kept)?;
         add_shut(&mut plan, self.notes.stray);

@@ -1,3 +1,4 @@
+//! A minute as it is kept.
 use tacho_types::Odometer;
 use unit_model::State;
 
@@ -7,7 +8,10 @@ use unit_model::State;
 pub struct KeptMinute {
     /// Seconds since 1970-01-01 00:00 GMT, divided by 60.
     pub minute: u32,
+    /// The activity of the driver slot, and whether it has a card.
     pub driver: State,
+    /// The same of the co-driver slot.
     pub codriver: State,
+    /// The odometer at its end, in km, at most 9999999.
     pub odometer: Odometer,
 }

@@ -1,3 +1,4 @@
+//! The writes that mend a unit.
 ghost use Rattle.std.specs.Option.{ForSome};
 ghost use Rattle.std.specs.Prelude.{◌≡◌, ◌≤◌, ◌<◌, ◌+◌, length, IfOk, IfSome, is_err};
 ghost use Rattle.unit_model.specs.declared.layout.TheConstants.{DAY_SLOTS, DAY_WORD_LIMIT, IMAGE_SIZE};
@@ -17,7 +18,7 @@ use unit_model::layout::{
 /// day.
 pub type Mending = Plan<34, 4>;
 
-// Adds the emptying of a cell, where it is later than the last-kept minute.
+/// Adds the emptying of a cell, where it is later than the last-kept minute.
 fn add_emptied(plan: &mut Mending, place: u32, kept: u32, minute: u32)
     requires room { HasRoom 1 34 plan.old }
     requires inside { place + 4 ≤ IMAGE_SIZE }
@@ -31,6 +32,10 @@ fn add_emptied(plan: &mut Mending, place: u32, kept: u32, minute: u32)
 
 /// The cells of the owed rows that are later than the last-kept minute, row by row, cell by cell: each is to be
 /// emptied.
+///
+/// # Errors
+///
+/// `Failed` where the medium failed.
 pub fn late_cells<M: Medium>(unit: &mut M, kept: u32) -> Result<Mending, Failed>
     requires unit { IsUnit (M.state unit.old) }
     ensures plan { IfOk result (λ plan. IfSome (M.state unit.old).image (λ x. plan ≡ more (none 0 IMAGE_SIZE)

@@ -1,3 +1,4 @@
+//! What a journal remembers of the image.
 ghost use Rattle.std.specs.Prelude.{◌≡◌, ◌≤◌, ◌+◌, min, None};
 ghost use Rattle.unit_model.specs.declared.layout.TheConstants.{DAY_SLOTS};
 ghost use Rattle.unit_minutes.specs.Minute.{notes_by};

@@ -1,3 +1,4 @@
+//! The writes that keep a minute.
 ghost use Rattle.std.specs.Prelude.{◌≡◌, ◌≤◌, ◌<◌, ◌+◌, ◌*◌, ◌/◌, ◌%◌, ◌∷◌, [], length};
 ghost use Rattle.unit_model.specs.declared.layout.TheConstants.{DAY_COUNT, DAY_SLOTS, DAY_WORD_LIMIT};
 ghost use Rattle.std.specs.Int.{to_be_bytes, w16};
@@ -14,10 +15,9 @@ use crate::bits::{BARE, SlotBits};
 use crate::coming::Coming;
 use crate::notes::Notes;
 use crate::words::first_bits;
+use activity_codec::DAY_MINUTES;
 use tach_media::Plan;
-use unit_model::layout::{
-    DAY_COUNT, DAY_MINUTES, DAY_WORDS, LAST_KEPT, WORD_MINUTES, WORD_SLOT, slot_place,
-};
+use unit_model::layout::{DAY_COUNT, DAY_WORDS, LAST_KEPT, WORD_MINUTES, WORD_SLOT, slot_place};
 
 /// The writes of a minute. On the last-kept minute's day the odometer, at most four words, their count, and the mark;
 /// on a further day the odometer, three that close the day before, four of the new slot, two words, their count, and

@@ -1,3 +1,4 @@
+//! The day of the last-kept minute, as it is read.
 ghost use Rattle.std.specs.Prelude.{◌≡◌, ◌≤◌, ◌<◌, ◌+◌, ◌*◌, ◌-◌, ◌%◌, IfOk, IfErr, IfSome, is_err, true, None, []};
 ghost use Rattle.std.specs.Prelude.{min, unwrap_or};
 ghost use Rattle.unit_model.specs.declared.layout.TheConstants.{DAY_SLOTS, DAY_WORD_LIMIT, DAY_WORDS, IMAGE_SIZE};
@@ -11,12 +12,12 @@ ghost use Rattle.unit_minutes.specs.Image.{IsToday};
 ghost use Rattle.unit_minutes.specs.Today.{today_of, recorded_days};
 
 use crate::bits::{BARE, SlotBits};
+use activity_codec::{DAY_MINUTES, DAY_SECONDS};
 use gated_ring::{Ring, RingFault};
 use tach_media::{Failed, Medium, read_number};
 use unit_memory::{Scan, UnitFault, scan_day};
 use unit_model::layout::{
-    DAY_COUNT, DAY_DATE, DAY_MINUTES, DAY_SECONDS, DAY_SLOT_SIZE, DAY_SLOTS, DAY_WORD_LIMIT, DAYS,
-    slot_place,
+    DAY_COUNT, DAY_DATE, DAY_SLOT_SIZE, DAY_SLOTS, DAY_WORD_LIMIT, DAYS, slot_place,
 };
 
 /// What is read of the last-kept minute's day: its stored count, how many of its words are not later, and the bits of
@@ -29,6 +30,10 @@ pub struct Today {
 }
 
 /// The ring of the day slots, whose pointer is known to be an index.
+///
+/// # Errors
+///
+/// `Failed` where the medium failed; `BadUnit` never of a unit that tells its image.
 pub fn day_ring<M: Medium>(unit: &mut M) -> Result<Ring, UnitFault>
     requires unit { (M.state unit.old).size ≡ IMAGE_SIZE }
     requires known { IfSome (M.state unit.old).image (λ x. pointer day_ring x < DAY_SLOTS) }
@@ -95,6 +100,10 @@ pub fn later_day(kept: u32, pointer: u32, date: u32) -> Option<u32>
 }
 
 /// Reads the last-kept minute's day; there is none where that minute is 0.
+///
+/// # Errors
+///
+/// `Failed` where the medium failed.
 pub fn read_today<M: Medium>(unit: &mut M, kept: u32, index: u32) -> Result<Today, Failed>
     requires works { (M.state unit.old).works ≡ true }
     requires unit { (M.state unit.old).size ≡ IMAGE_SIZE }
@@ -120,7 +129,7 @@ pub fn read_today<M: Medium>(unit: &mut M, kept: u32, index: u32) -> Result<Toda
     Ok(today_of(kept % DAY_MINUTES, stored, scan))
 }
 
-// What a scan says, within its ranges.
+/// What a scan says, within its ranges.
 fn today_of(last: u32, stored: u32, scan: Result<Scan, u32>) -> Today
     requires { last < 1440 }
     ensures today { result ≡ today_of last stored scan }

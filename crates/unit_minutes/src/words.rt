@@ -1,3 +1,4 @@
+//! The head and the words of a new day.
 ghost use Rattle.std.specs.Prelude.{◌≡◌, ◌<◌, length};
 ghost use Rattle.unit_model.specs.Changes.{first_state};
 ghost use Rattle.unit_minutes.specs.Coming.{IsComing};
@@ -5,9 +6,8 @@ ghost use Rattle.unit_minutes.specs.Minute.{head_of, new_head};
 
 use crate::bits::{BARE, SlotBits};
 use crate::coming::Coming;
-use unit_model::layout::{
-    DAY_COUNT, DAY_DATE, DAY_MINUTES, DAY_ODOMETER, DAY_SECONDS, DAY_SPARE, WORD_MINUTES, WORD_SLOT,
-};
+use activity_codec::{DAY_MINUTES, DAY_SECONDS};
+use unit_model::layout::{DAY_COUNT, DAY_DATE, DAY_ODOMETER, DAY_SPARE, WORD_MINUTES, WORD_SLOT};
 
 /// The states at 00:00 of a new day, whose first kept minute has this number in it.
 pub fn first_bits(minute: u32, bits: SlotBits) -> SlotBits
@@ -21,8 +21,8 @@ pub fn first_bits(minute: u32, bits: SlotBits) -> SlotBits
     if minute == 0 { bits } else { BARE }
 }
 
-// Writes the beginning of a new day's slot: its date, the odometer, the count of two words, six spare bytes, and these
-// words.
+/// Writes the beginning of a new day's slot: its date, the odometer, the count of two words, six spare bytes, and these
+/// words.
 fn write_head(date: u32, odometer: u32, first: SlotBits, out: &mut [u8])
     requires size { length out.old ≡ 20 }
     requires driver { first.driver < 16 }

@@ -6,7 +6,6 @@ use Rattle.gated_ring.specs.card_layout.Images.{big_number}
 use Rattle.gated_ring.specs.tach_media.Medium.{SameOutside, bytes_at}
 use Rattle.gated_ring.proofs.tach_media.Images.{part_before, part_after, part_put, put_outside, outside_wider, outside_then}
 use Rattle.gated_ring.specs.Ring.{Shape, number_at, pointer, is_there, place_of, gate_of, entry_at, next, order, ring_list, indices as ring_indices}
-use Rattle.minute_model.specs.declared.Rule.TheVariants.{Original, Amended}
 use Rattle.unit_model.specs.declared.layout.TheConstants.{DAY_SLOT_SIZE, IMAGE_SIZE, INSERTIONS, LAST_KEPT, ODOMETER, OVER_COUNT, OWED, PLACES, RULE_BYTE, SPARE, SPEEDS, VERSION, VIN}
 use Rattle.unit_model.specs.Days.{days_shown, word_minute}
 use Rattle.unit_model.specs.Image.{number_of, last_kept, odometer_at, slot_place, unit_day, unit_days, recorded, slot_count}
@@ -126,10 +125,6 @@ module _ (x : List ℕ) (sized : length x ≡ IMAGE_SIZE) where
     version = inr (upgraded_version, upgraded_byte);
   }
 
-  pub upgraded_rule : rule_of (upgraded x) ≡ Amended
-  unfolding rule_of
-  upgraded_rule = λ t. rule_by (rule_byte_by (upgraded_version t) (upgraded_byte t))
-
   pub ruled_decodes : version_of x ≡ 1 → Decodes x → Decodes (ruled x)
   ruled_decodes plain decodes =
       let v : version_of (ruled x) ≡ 1 = ruled_version ∙ plain in
@@ -138,11 +133,6 @@ module _ (x : List ℕ) (sized : length x ≡ IMAGE_SIZE) where
   pub upgraded_decodes : Decodes x → Decodes (upgraded x)
   upgraded_decodes decodes =
       good_decodes (upgraded x) (version_good x (upgraded x) upgraded_same (ap is_version_good upgraded_version) (λ t. is_rule_good (upgraded_version t) (upgraded_byte t)) (good_of x decodes))
-
--- the rule of an image of version 1
-pub plain_rule : (x : List ℕ) → version_of x ≡ 1 → rule_of x ≡ Original
-unfolding rule_of
-plain_rule x plain = ap (λ (v : ℕ). rule_by (rule_byte_by v (number_of x RULE_BYTE))) plain
 
 -- images with the same bytes in front of the last-kept minute have one rule
 pub front_rule : (x c : List ℕ) → take LAST_KEPT.place c ≡ take LAST_KEPT.place x → rule_of c ≡ rule_of x

@@ -21,5 +21,6 @@ unfoldable pub cells_emptied : (kept n : ℕ) → List ℕ → List ℕ
 cells_emptied kept zero x = x
 cells_emptied kept (suc n) x = cell_emptied kept n (cells_emptied kept n x)
 
+-- a moment of it: those of the first n cells that are later are emptied
 abbrev pub IsEmptyingAll : (kept : ℕ) → List ℕ → List ℕ → Type 0
 IsEmptyingAll kept x c = (n : ℕ) × (n ≤ 32) × (c ≡ cells_emptied kept n x)

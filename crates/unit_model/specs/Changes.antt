@@ -6,6 +6,7 @@ use Rattle.unit_model.specs.Days.{word_by, bare}
 abbrev pub change : (slot minute old new : ℕ) → List ℕ
 change slot minute old new = if old == new then [] else word_by slot new minute ∷ []
 
+-- the words that the new states of both slots bring, the driver's first
 abbrev pub changes : (minute driver codriver driver' codriver' : ℕ) → List ℕ
 changes minute driver codriver driver' codriver' = change 0 minute driver driver' ++ change 1 minute codriver codriver'
 
@@ -20,11 +21,12 @@ new_words next minute driver codriver driver' codriver' =
 abbrev pub closing_words : (next driver codriver : ℕ) → List ℕ
 closing_words next driver codriver = if next == 1440 then [] else changes next driver codriver bare bare
 
--- the words of a new day with its first kept minute
+-- the first two words of a new day, whose first kept minute this is: the states of both slots at 00:00
 abbrev pub first_states : (minute driver codriver : ℕ) → List ℕ
 first_states minute driver codriver =
     if minute == 0 then word_by 0 driver 0 ∷ word_by 1 codriver 0 ∷ [] else word_by 0 bare 0 ∷ word_by 1 bare 0 ∷ []
 
+-- and the words of that minute behind them, where it is later than 00:00
 abbrev pub further_words : (minute driver codriver : ℕ) → List ℕ
 further_words minute driver codriver = if minute == 0 then [] else changes minute bare bare driver codriver
 

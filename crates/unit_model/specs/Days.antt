@@ -6,13 +6,15 @@ use Rattle.view_model.specs.activity_codec.Words.{activity_numbered}
 pub use Rattle.view_model.specs.activity_codec.Words.{word_minute}
 use Rattle.view_model.specs.declared.State.{State}
 
--- a word's slot, and the bits of its state (CREW, no card, activity) (Appendix 1, ActivityChangeInfo)
+-- a word's slot, 0 the driver's and 1 the co-driver's (Appendix 1, ActivityChangeInfo)
 abbrev pub slot_bit : ℕ → ℕ
 slot_bit w = w / 32768 % 2
 
+-- the bits of its state: CREW, no card, activity
 abbrev pub word_state : ℕ → ℕ
 word_state w = w / 2048 % 16
 
+-- the word of a slot, of the bits of a state, and of a minute of the day
 abbrev pub word_by : (slot state minute : ℕ) → ℕ
 word_by slot state minute = 32768 * slot + 2048 * state + minute
 
@@ -37,6 +39,7 @@ state_at slot minute words = state_after slot minute bare words
 abbrev pub state_in : ℕ → State
 state_in bits = record { act = activity_numbered (bits % 4); present = bits / 4 % 2 == 0 }
 
+-- and whether they say CREW
 abbrev pub is_crew_in : ℕ → Bool
 is_crew_in bits = bits / 8 % 2 == 1
 
@@ -67,9 +70,11 @@ pub record StoredDay : Type 0 where
   pub odometer : ℕ
   pub words : List ℕ
 
+-- the number of a day since 1970-01-01
 abbrev pub day_of : StoredDay → ℕ
 day_of d = d.date / 86400
 
+-- what a day says of its minute of this number
 abbrev pub minute_at : StoredDay → ℕ → UnitMinute
 minute_at d t = minute_by (1440 * day_of d + t) (state_at 0 t d.words) (state_at 1 t d.words)
 
@@ -81,6 +86,7 @@ shown n d = record { day = day_of d; minutes = map (minute_at d) (range_with_len
 abbrev pub minutes_shown : (kept day : ℕ) → ℕ
 minutes_shown kept day = if day == kept / 1440 then kept % 1440 + 1 else 1440
 
+-- and a day with these minutes
 abbrev pub day_shown : ℕ → StoredDay → ShownDay
 day_shown kept d = shown (minutes_shown kept (day_of d)) d
 
@@ -88,6 +94,7 @@ day_shown kept d = shown (minutes_shown kept (day_of d)) d
 abbrev pub days_shown : ℕ → List StoredDay → List ShownDay
 days_shown kept days = map (day_shown kept) (filter (λ d. nat_le (day_of d) (kept / 1440)) days)
 
+-- a minute of which nothing is known: in both slots no card, rest, single
 abbrev pub unknown_minute : ℕ → UnitMinute
 unknown_minute m = minute_by m bare bare
 
@@ -103,6 +110,7 @@ padded n d = record {
 abbrev pub with_minute : UnitMinute → ShownDay → ShownDay
 with_minute k d = record { day = d.day; minutes = (padded (k.minute % 1440) d).minutes ++ k ∷ [] }
 
+-- a new day with this minute, and unknown ones from 00:00 up to it
 abbrev pub day_from : UnitMinute → ShownDay
 day_from k = with_minute k (record { day = k.minute / 1440; minutes = [] })
 

@@ -18,6 +18,7 @@ pub record Check : Type 0 where
   pub place : ℕ
   pub passes : Bool
 
+-- the check of a field at a place
 abbrev pub check : ℕ → Bool → Check
 check place passes = record { place = place; passes = passes }
 
@@ -39,10 +40,11 @@ abbrev pub is_kept_good : List ℕ → Bool
 is_kept_good image = nat_le (last_kept image) LAST_MINUTE
     && (last_kept image == 0 || has_day image (last_kept image / 1440))
 
--- the version is 1 or 2, and version 2 has a rule byte that is 0 or 1
+-- the version is 1 or 2
 abbrev pub is_version_good : ℕ → Bool
 is_version_good version = version == PLAIN_VERSION || version == RULED_VERSION
 
+-- version 2 has a rule byte that is 0 or 1
 abbrev pub is_rule_good : (version rule : ℕ) → Bool
 is_rule_good version rule = version == PLAIN_VERSION || nat_le rule 1
 
@@ -60,9 +62,11 @@ front_checks image =
 abbrev pub cell_place : ℕ → ℕ
 cell_place n = OWED.place + n / CELLS * OWED_ROW_SIZE + ROW_CELLS.place + n % CELLS * CELL_SIZE
 
+-- a cell's minute, 0 in an empty one
 abbrev pub cell_minute : List ℕ → ℕ → ℕ
 cell_minute image n = number_at image (cell_place n) CELL_MINUTE.size
 
+-- a cell's word
 abbrev pub cell_word : List ℕ → ℕ → ℕ
 cell_word image n = number_at image (cell_place n + CELL_WORD.place) CELL_WORD.size
 
@@ -71,16 +75,18 @@ abbrev pub cell_check : List ℕ → ℕ → Check
 cell_check image n = check (cell_place n + CELL_WORD.place)
     (cell_minute image n == 0 || nat_lt (word_minute (cell_word image n)) 1440)
 
+-- so of each cell of all rows
 abbrev pub cell_checks : List ℕ → List Check
 cell_checks image = map (cell_check image) (range_with_len 0 (OWED_ROWS * CELLS))
 
--- of slots from the oldest place to the pointer's: empty ones, then ones that are there up to the pointer's or to the
--- one before it
+-- each of these slots is there, but the last one may be empty
 abbrev pub is_filled_on : List Bool → Bool
 is_filled_on [] = true
 is_filled_on (true ∷ there) = is_filled_on there
 is_filled_on (false ∷ there) = length there == 0
 
+-- of slots from the oldest place to the pointer's: empty ones, then ones that are there up to the pointer's or to the
+-- one before it
 abbrev pub are_dense : List Bool → Bool
 are_dense [] = true
 are_dense (false ∷ there) = are_dense there
@@ -124,6 +130,7 @@ is_word_good before w =
     && not (slot_bit v == slot_bit w && word_minute v == word_minute w)) before
     && is_first_good (length before) w)
 
+-- so of each of these words, which stand from a place on behind those before them
 abbrev pub word_checks : (place : ℕ) → (before words : List ℕ) → List Check
 word_checks place before [] = []
 word_checks place before (w ∷ ws) = check place (is_word_good before w) ∷ word_checks (place + 2) (before ++ w ∷ []) ws
@@ -138,6 +145,7 @@ day_checks image i =
     (nat_le 2 (slot_count image i) && nat_le (slot_count image i) DAY_WORD_LIMIT)
     ∷ word_checks (slot_place i + DAY_WORDS.place) [] (slot_words image i (slot_count image i))
 
+-- a slot that is there is checked so, and an empty one has no field to check
 abbrev pub slot_checks : List ℕ → ℕ → List Check
 slot_checks image i = if is_there day_ring image i then day_checks image i else []
 

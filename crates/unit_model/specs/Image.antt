@@ -70,13 +70,15 @@ recorded image = days_shown (last_kept image) (unit_days image)
 unfoldable pub unit_minutes : List ℕ → List UnitMinute
 unit_minutes image = minutes_of (recorded image)
 
--- a slot's fields, by their places in the image; it begins with its date
+-- a slot's date in seconds, with which it begins
 abbrev pub slot_date : List ℕ → ℕ → ℕ
 slot_date image i = number_at image (slot_place i) DAY_DATE.size
 
+-- its odometer in km
 abbrev pub slot_odometer : List ℕ → ℕ → ℕ
 slot_odometer image i = number_at image (slot_place i + DAY_ODOMETER.place) DAY_ODOMETER.size
 
+-- how many words it has
 abbrev pub slot_count : List ℕ → ℕ → ℕ
 slot_count image i = number_at image (slot_place i + DAY_COUNT.place) DAY_COUNT.size
 
@@ -84,6 +86,7 @@ slot_count image i = number_at image (slot_place i + DAY_COUNT.place) DAY_COUNT.
 abbrev pub spare_bytes : List ℕ → ℕ → List ℕ
 spare_bytes image i = bytes_at image (slot_place i + DAY_SPARE.place) DAY_SPARE.size
 
+-- the first of its words, so many
 abbrev pub slot_words : List ℕ → ℕ → ℕ → List ℕ
 slot_words image i count = words_at image (slot_place i + DAY_WORDS.place) count
 

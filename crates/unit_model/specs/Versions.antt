@@ -14,6 +14,7 @@ version_of image = number_of image VERSION
 abbrev pub rule_byte_by : (version byte : ℕ) → ℕ
 rule_byte_by version byte = if version == RULED_VERSION then byte else 0
 
+-- so of an image
 abbrev pub rule_byte_of : List ℕ → ℕ
 rule_byte_of image = rule_byte_by (version_of image) (number_of image RULE_BYTE)
 
@@ -25,10 +26,11 @@ rule_by byte = if byte == 1 then Amended else Original
 unfoldable pub rule_of : List ℕ → Rule
 rule_of image = rule_by (rule_byte_of image)
 
--- an image with the amended rule in its rule byte, and then with version 2
+-- an image with the amended rule in its rule byte
 abbrev pub ruled : List ℕ → List ℕ
 ruled image = put RULE_BYTE.place (1 ∷ []) image
 
+-- and then with version 2
 abbrev pub upgraded : List ℕ → List ℕ
 upgraded image = put VERSION.place (0 ∷ 0 ∷ 0 ∷ 2 ∷ []) (ruled image)
 

@@ -23,16 +23,18 @@ free_place i count = slot_place i + DAY_WORDS.place + 2 * count
 abbrev pub DiffersBehind : (index count : ℕ) → List ℕ → List ℕ → Type 0
 DiffersBehind i count x c = SameOutside (free_place i count) (DAY_WORDS.size - 2 * count) x c
 
--- an image with another odometer, another count of a slot, another last-kept minute, and more words of a slot with
--- their count
+-- an image with another odometer
 abbrev pub with_odometer : ℕ → List ℕ → List ℕ
 with_odometer odometer x = put ODOMETER.place (to_be_bytes w32 odometer) x
 
+-- with another count of a slot
 abbrev pub with_count : (index count : ℕ) → List ℕ → List ℕ
 with_count i count x = put (slot_place i + DAY_COUNT.place) (to_be_bytes w16 count) x
 
+-- with another last-kept minute
 abbrev pub with_kept : ℕ → List ℕ → List ℕ
 with_kept minute x = put LAST_KEPT.place (to_be_bytes w32 minute) x
 
+-- with more words of a slot, and their count
 abbrev pub with_words : (index count : ℕ) → List ℕ → List ℕ → List ℕ
 with_words i count ws x = with_count i (count + length ws) (written (free_place i count) ws x)

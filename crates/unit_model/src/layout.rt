@@ -9,7 +9,9 @@ ghost use Rattle.unit_model.specs.Decoding.{cell_place};
 /// places that are counted from its own begin.
 #[derive(Clone, Copy, Debug, PartialEq, Eq)]
 pub struct Field {
+    /// Where its first byte stands, from 0.
     pub place: u32,
+    /// How many bytes it has.
     pub size: u32,
 }
 
@@ -134,7 +136,7 @@ pub const SPARE_FAULTS: Field = Field {
     place: 2_393_642,
     size: 2,
 };
-/// The detailed speed: a pointer and 1440 blocks of 64 bytes. Nothing is written there yet.
+/// The detailed speed: a pointer and 1440 blocks of 64 bytes.
 pub const SPEEDS: Field = Field {
     place: 2_393_644,
     size: 92_164,
@@ -183,11 +185,6 @@ pub const WORD_MINUTES: u32 = 2048;
 /// In a word: the co-driver's slot counts so much.
 pub const WORD_SLOT: u32 = 32768;
 
-/// The minutes of a day.
-pub const DAY_MINUTES: u32 = 1440;
-/// The seconds of a day.
-pub const DAY_SECONDS: u32 = 86400;
-
 /// How many owed rows there are.
 pub const OWED_ROWS: u32 = 8;
 
@@ -215,8 +212,8 @@ pub const CELL_MINUTE: Field = Field { place: 0, size: 4 };
 /// In a cell: the word.
 pub const CELL_WORD: Field = Field { place: 4, size: 2 };
 
-/// The last minute since 1970-01-01 that the unit may keep.
-pub const LAST_MINUTE: u32 = 71_582_788;
+/// The last minute since 1970-01-01 00:00 GMT that the unit may keep: the last one whose first second has a time.
+pub const LAST_MINUTE: u32 = activity_codec::LAST_MINUTE;
 
 /// The highest odometer in km that it may hold.
 pub const HIGHEST_ODOMETER: u32 = 9_999_999;

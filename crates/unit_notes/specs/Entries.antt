@@ -13,20 +13,22 @@ use Rattle.event_model.specs.Kinds.{purpose_of, purpose_number}
 use Rattle.unit_notes.specs.declared.insertion.Insertion.{Insertion}
 use Rattle.unit_notes.specs.declared.unit_event.UnitEvent.{UnitEvent}
 
--- the fields of an insertion, by message_model's `insertion_widths`: what is known of the card's holder, and the card's
--- use
+-- what an insertion says of the card's holder, field by field (message_model, `insertion_widths`)
 abbrev pub holder_fields : Insertion → List (List ℕ)
 holder_fields v = v.surname.0 ∷ v.first.0 ∷ card_number_bytes v.number ∷ time_bytes v.expiry ∷ []
 
+-- and what it says of the card's use
 abbrev pub use_fields : Insertion → List (List ℕ)
 use_fields v =
     time_bytes v.time ∷ odometer_bytes v.odometer ∷ (v.slot ∷ []) ∷ time_bytes v.out_time
     ∷ odometer_bytes v.out_odometer
     ∷ v.previous.0 ∷ time_bytes v.previous_time ∷ (v.manual ∷ []) ∷ []
 
+-- the fields of an insertion
 abbrev pub insertion_fields : Insertion → List (List ℕ)
 insertion_fields v = holder_fields v ++ use_fields v
 
+-- and its bytes
 unfoldable pub insertion_bytes : Insertion → List ℕ
 insertion_bytes v = joined (insertion_fields v)
 
@@ -41,6 +43,7 @@ fault_fields v =
     ∷ card_number_bytes v.driver_begin ∷ card_number_bytes v.codriver_begin
     ∷ card_number_bytes v.driver_end ∷ card_number_bytes v.codriver_end ∷ []
 
+-- and as bytes
 unfoldable pub fault_bytes : UnitEvent → List ℕ
 fault_bytes v = joined (fault_fields v)
 
@@ -51,5 +54,6 @@ over_fields over driver =
     ∷ time_bytes (record { 0 = over.begin }) ∷ time_bytes (record { 0 = over.end })
     ∷ (over.most ∷ []) ∷ (over.average ∷ []) ∷ card_number_bytes driver ∷ []
 
+-- and as bytes
 unfoldable pub over_bytes : Over → FullCardNumber → List ℕ
 over_bytes over driver = joined (over_fields over driver)

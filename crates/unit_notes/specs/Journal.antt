@@ -6,6 +6,7 @@ use Rattle.card_layout.specs.Images.{bytes_at}
 use Rattle.unit_model.specs.declared.layout.TheConstants.{FIRST_OVER, SPARE_COUNTS, INSERTIONS, SPARE_FAULTS}
 use Rattle.unit_model.specs.Decoding.{Decodes}
 
+-- the bytes of the journal are as they were: all but the two numbers of over speedings, the rings and the tables
 pub record KeepsJournal (x c : List ℕ) : Type 0 where
   pub front : bytes_at c 0 FIRST_OVER.place ≡ bytes_at x 0 FIRST_OVER.place
   pub rest : bytes_at c SPARE_COUNTS.place (INSERTIONS.place - SPARE_COUNTS.place)

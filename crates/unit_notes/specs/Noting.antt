@@ -17,10 +17,11 @@ use Rattle.unit_notes.specs.Tables.{place_taken, place_of_day, similar_next, sim
 
 -- ---- withdrawals
 
--- where an insertion has the time of its withdrawal, and the odometer then
+-- where an insertion has the time of its withdrawal
 abbrev pub out_place : ℕ
 out_place = place_in insertion_widths 7
 
+-- and the odometer then
 abbrev pub out_odometer_place : ℕ
 out_odometer_place = place_in insertion_widths 8
 
@@ -76,10 +77,11 @@ pub record IsEventNoted (kind : ℕ) (front x y : List ℕ) : Type 0 where
 
 -- ---- over speedings: the begin of the first one, and their number
 
+-- an image with this begin of the first over speeding, where it has none
 abbrev pub with_first : (begin : ℕ) → List ℕ → List ℕ
 with_first begin x = if number_of x FIRST_OVER == 0 then put FIRST_OVER.place (to_be_bytes w32 begin) x else x
 
--- at most 255
+-- with one over speeding more, of which at most 255 are counted
 abbrev pub with_one_more : List ℕ → List ℕ
 with_one_more x =
     if nat_lt (number_of x OVER_COUNT) 255 then put OVER_COUNT.place (to_be_bytes w32 (number_of x OVER_COUNT + 1)) x
@@ -96,6 +98,7 @@ IsNotingOver begin front x c =
     ⊎ ((y : List ℕ) × IsEventNoted OVER_SPEEDING front x y
     × ((c ≡ with_first begin y) ⊎ (c ≡ with_one_more (with_first begin y))))
 
+-- an over speeding was noted: its entry, the begin of the first one, and their number
 abbrev pub IsOverNoted : (begin : ℕ) → (front x c : List ℕ) → Type 0
 IsOverNoted begin front x c = (y : List ℕ) × IsEventNoted OVER_SPEEDING front x y
     × (c ≡ with_one_more (with_first begin y))

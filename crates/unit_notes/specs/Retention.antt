@@ -29,6 +29,7 @@ similar_of kind bytes (Some field) = number_in (widths_of kind) field bytes
 abbrev pub counted_row : ℕ → List ℕ → Counted
 counted_row kind bytes = record { held = held_in kind bytes; similar = similar_of kind bytes (similar_field kind) }
 
+-- so of each of these entries
 abbrev pub counted_rows : ℕ → List (List ℕ) → List Counted
 counted_rows kind rows = map (counted_row kind) rows
 

@@ -24,10 +24,11 @@ rows_in kind bytes = map (λ i. bytes_at bytes (i * total_width (widths_of kind)
 unfoldable pub held_table : ℕ → List ℕ → List Held
 held_table kind x = map (held_in kind) (table_in kind x)
 
--- the place that an event takes by the front of its entry, and that of the event of its day
+-- the place that an event takes by the front of its entry
 abbrev pub place_taken : (kind : ℕ) → (front x : List ℕ) → Option ℕ
 place_taken kind front x = place_of kind (held_table kind x) (held_in kind front)
 
+-- the place of the event of its day
 abbrev pub place_of_day : (kind : ℕ) → (front x : List ℕ) → Option ℕ
 place_of_day kind front x = day_place kind (held_table kind x) (held_in kind front)
 

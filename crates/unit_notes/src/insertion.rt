@@ -12,20 +12,27 @@ use tacho_types::{
 /// An insertion of a card, and its withdrawal (Appendix 1, VuCardIWRecord).
 #[derive(Clone, Copy, Debug, PartialEq, Eq)]
 pub struct Insertion {
+    /// The surname of the card's holder.
     pub surname: Name36,
+    /// The first names of the holder.
     pub first: Name36,
+    /// The number of the card.
     pub number: FullCardNumber,
+    /// When the card expires.
     pub expiry: TimeReal,
     /// When it was inserted.
     pub time: TimeReal,
+    /// The odometer then, in km.
     pub odometer: Odometer,
     /// 0 the driver slot, 1 the co-driver slot.
     pub slot: u8,
     /// When it was withdrawn; 0 where it was not yet.
     pub out_time: TimeReal,
+    /// The odometer then, in km; 0 where it was not yet.
     pub out_odometer: Odometer,
-    /// The vehicle that the card was used in before, and when it was withdrawn there; zeros where there is none.
+    /// The vehicle that the card was used in before; zeros where there is none.
     pub previous: Registration,
+    /// When it was withdrawn there; 0 where there is none.
     pub previous_time: TimeReal,
     /// 1 where the driver entered something by hand, else 0.
     pub manual: u8,
@@ -53,7 +60,7 @@ pub fn write_insertion(v: &Insertion, out: &mut [u8])
     write_use(v, behind);
 }
 
-// Writes what an insertion tells of the card's holder.
+/// Writes what an insertion tells of the card's holder.
 fn write_holder(v: &Insertion, out: &mut [u8])
     requires size { length out.old ≡ HOLDER }
     ensures bytes { out.new ≡ joined (holder_fields v.now) }
@@ -67,7 +74,7 @@ fn write_holder(v: &Insertion, out: &mut [u8])
     write_time(v.expiry, expiry);
 }
 
-// Writes what an insertion tells behind its holder: times, odometer values, the slot and the previous vehicle.
+/// Writes what an insertion tells behind its holder: times, odometer values, the slot and the previous vehicle.
 fn write_use(v: &Insertion, out: &mut [u8])
     requires size { HOLDER + length out.old ≡ Insertion.SIZE }
     requires odometer { v.now.odometer.0 < 2 ^ 24 }

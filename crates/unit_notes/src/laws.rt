@@ -1,3 +1,4 @@
+//! Laws on the definitions of specs/: they run nothing, and their contracts say what is proved of them.
 ghost use Rattle.std.specs.Prelude.{◌≡◌, ◌≢◌, ℕ, ◌<◌, ◌^◌, List, length};
 ghost use Rattle.trace_model.specs.declared.Card.{Card};
 ghost use Rattle.tacho_types.specs.CardNumber.{card_number_bytes};

@@ -13,7 +13,8 @@ ghost use Rattle.unit_notes.specs.Tables.{with_similar};
 ghost use Rattle.unit_notes.specs.Noting.{IsNotingEvent, IsEventNoted};
 
 use crate::tables::{
-    MOST_BYTES, base_of, count_of, held_in, held_table, similar_at, table_of, width_of,
+    EVENT_SIZE, FAULT_SIZE, MOST_BYTES, base_of, count_of, held_in, held_table, similar_at,
+    table_of, width_of,
 };
 use arrayvec::ArrayVec;
 use event_model::{CARD_FAULT, Held};
@@ -28,7 +29,7 @@ pub struct Choice {
     pub similar: u8,
 }
 
-// Where an event of a type goes, by the bytes of the places of its type.
+/// Where an event of a type goes, by the bytes of the places of its type.
 fn choice_in(kind: u8, table: &[u8], event: &Held) -> Choice
     requires { length table.now ≡ places_of kind * total_width (widths_of kind) }
     ensures place { result.place ≡ place_of kind (map (held_in kind) (rows_in kind table.now)) event.now }
@@ -47,7 +48,7 @@ fn choice_in(kind: u8, table: &[u8], event: &Held) -> Choice
     }
 }
 
-// Where an event goes whose entry has this front. It reads the places of its type at once.
+/// Where an event goes whose entry has this front. It reads the places of its type at once.
 fn choose<M: Medium>(unit: &mut M, kind: u8, front: &[u8]) -> Result<Choice, Failed>
     requires unit { IsUnit (M.state unit.old) }
     requires front { 12 ≤ length front.now }
@@ -65,9 +66,9 @@ fn choose<M: Medium>(unit: &mut M, kind: u8, front: &[u8]) -> Result<Choice, Fai
     Ok(choice_in(kind, table, &event))
 }
 
-// The entry of an event from its front.
-fn entry_of(kind: u8, front: &[u8], similar: u8) -> ArrayVec<u8, 83>
-    requires { length front.now ≤ 82 }
+/// The entry of an event from its front.
+fn entry_of(kind: u8, front: &[u8], similar: u8) -> ArrayVec<u8, EVENT_SIZE>
+    requires { length front.now ≤ FAULT_SIZE }
     ensures { result.items ≡ with_similar kind similar front.now }
 {
     let mut entry = ArrayVec::new();
@@ -78,7 +79,7 @@ fn entry_of(kind: u8, front: &[u8], similar: u8) -> ArrayVec<u8, 83>
     entry
 }
 
-// Puts the entry of an event with this front at a place of its type.
+/// Puts the entry of an event with this front at a place of its type.
 fn put_entry<M: Medium>(
     unit: &mut M,
     kind: u8,
@@ -103,7 +104,7 @@ fn put_entry<M: Medium>(
     table_of(kind).put_at(unit, place as u32, &entry)
 }
 
-// Writes the number of similar events that the event at a place of its type counts.
+/// Writes the number of similar events that the event at a place of its type counts.
 fn count_similar<M: Medium>(unit: &mut M, kind: u8, place: u8, similar: u8) -> Result<(), Failed>
     requires unit { IsUnit (M.state unit.old) }
     requires place { place < places_of kind }
@@ -120,6 +121,10 @@ fn count_similar<M: Medium>(unit: &mut M, kind: u8, place: u8, similar: u8) -> R
 }
 
 /// Notes the event of a type whose entry has this front.
+///
+/// # Errors
+///
+/// `Failed` where the unit failed; then the event may be there or not, or its place is empty.
 pub fn note<M: Medium>(unit: &mut M, kind: u8, front: &[u8]) -> Result<(), Failed>
     requires unit { IsUnit (M.state unit.old) }
     requires front { length front.now ≡ front_size kind }
@@ -138,7 +143,7 @@ pub fn note<M: Medium>(unit: &mut M, kind: u8, front: &[u8]) -> Result<(), Faile
     }
 }
 
-// Where an event takes no place, the event of its day, if one is held, counts it.
+/// Where an event takes no place, the event of its day, if one is held, counts it.
 fn count_on_day<M: Medium>(
     unit: &mut M,
     kind: u8,

@@ -34,6 +34,10 @@ pub fn write_over(over: &Over, driver: &FullCardNumber, out: &mut [u8])
 }
 
 /// Notes the begin of the first over speeding where none is held.
+///
+/// # Errors
+///
+/// `Failed` where the unit failed; then the begin may be there or not.
 pub fn note_first<M: Medium>(unit: &mut M, begin: u32) -> Result<(), Failed>
     requires unit { IsUnit (M.state unit.old) }
     ensures written { OnOk result ((M.state unit.new).image ≡ option_map (with_first begin) (M.state unit.old).image) }
@@ -50,6 +54,10 @@ pub fn note_first<M: Medium>(unit: &mut M, begin: u32) -> Result<(), Failed>
 }
 
 /// Counts one over speeding more, at most 255.
+///
+/// # Errors
+///
+/// `Failed` where the unit failed; then it may be counted or not.
 pub fn count_one<M: Medium>(unit: &mut M) -> Result<(), Failed>
     requires unit { IsUnit (M.state unit.old) }
     ensures written { OnOk result ((M.state unit.new).image ≡ option_map with_one_more (M.state unit.old).image) }

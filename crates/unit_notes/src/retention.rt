@@ -1,3 +1,4 @@
+//! Laws: what the places of a unit hold once the events of a run were noted.
 ghost use Rattle.std.specs.Prelude.{◌≡◌, ℕ, ◌≤◌, false, Some, List, length, map, All};
 ghost use Rattle.gated_ring.specs.Earliest.{IsEarliest};
 ghost use Rattle.trace_model.specs.declared.Card.{Card};

@@ -55,6 +55,10 @@ pub fn places() -> Ring
 }
 
 /// Writes a few bytes of an insertion behind its time.
+///
+/// # Errors
+///
+/// `Failed` where the unit failed; then they may be there or not.
 pub fn set_part<M: Medium>(
     unit: &mut M,
     index: u32,

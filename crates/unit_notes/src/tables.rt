@@ -17,8 +17,11 @@ use event_model::{
 use gated_ring::Ring;
 use unit_model::layout::{EVENTS, FAULTS, OVERS};
 
-/// The size of an entry of a fault in bytes.
-pub const FAULT_SIZE: usize = UnitEvent::SIZE - 1;
+/// The size of an entry of an event in bytes; an over speeding and a fault have fewer.
+pub const EVENT_SIZE: usize = UnitEvent::SIZE;
+
+/// The size of an entry of a fault in bytes, and of that of an event without its number of similar events.
+pub const FAULT_SIZE: usize = EVENT_SIZE - 1;
 
 /// The size of an entry of an over speeding in bytes.
 pub const OVER_SIZE: usize = 31;
@@ -39,7 +42,7 @@ const EVENT_KINDS: usize = 6;
 /// The size of an entry of a type in bytes.
 pub fn width_of(kind: u8) -> usize
     ensures width { result ≡ total_width (widths_of kind) }
-    ensures most { result ≤ 83 }
+    ensures most { result ≤ EVENT_SIZE }
     ensures least { 31 ≤ result }
 {
     match kind {
@@ -62,7 +65,7 @@ pub fn count_of(kind: u8) -> usize
     }
 }
 
-// Which of the types with events of 83 bytes it is.
+/// Which of the types with events of 83 bytes it is.
 fn order_of(kind: u8) -> u32
     ensures order { result ≡ side.order_of kind }
     ensures most { result ≤ 5 }
@@ -90,11 +93,11 @@ pub fn base_of(kind: u8) -> u32
     }
 }
 
-// So many places of a width, without a pointer: an entry is there where its begin is not 0.
+/// So many places of a width, without a pointer: an entry is there where its begin is not 0.
 fn places_at(base: u32, width: usize, count: usize) -> Ring
     requires width { BEGIN + 4 ≤ width }
     requires some { 0 < count }
-    requires small { width ≤ 83 }
+    requires small { width ≤ EVENT_SIZE }
     requires few { count ≤ 60 }
     requires inside { base + count * width ≤ IMAGE_SIZE }
     ensures { result ≡ record { base = base; width = width; count = count; pointer_width = 0; gate = 2 } }

@@ -14,12 +14,17 @@ pub struct UnitEvent {
     pub kind: u8,
     /// Why it is recorded, as EventFaultRecordPurpose numbers it.
     pub purpose: u8,
+    /// Its first second.
     pub begin: TimeReal,
+    /// Its last second.
     pub end: TimeReal,
-    /// The cards that were inserted at its begin and at its end; zeros where there was none.
+    /// The card in the driver slot at its begin; zeros where there was none.
     pub driver_begin: FullCardNumber,
+    /// The card in the co-driver slot at its begin; zeros where there was none.
     pub codriver_begin: FullCardNumber,
+    /// The card in the driver slot at its end; zeros where there was none.
     pub driver_end: FullCardNumber,
+    /// The card in the co-driver slot at its end; zeros where there was none.
     pub codriver_end: FullCardNumber,
     /// The number of similar events of its day. A call that notes an event counts them itself, and looks at no number
     /// that is handed in.
@@ -47,7 +52,7 @@ pub fn write_fault(v: &UnitEvent, out: &mut [u8])
     write_cards(v, cards);
 }
 
-// Writes the card numbers of an event.
+/// Writes the card numbers of an event.
 fn write_cards(v: &UnitEvent, out: &mut [u8])
     requires size { length out.old ≡ 72 }
     ensures bytes { out.new ≡ joined (card_number_bytes v.now.driver_begin ∷ card_number_bytes v.now.codriver_begin

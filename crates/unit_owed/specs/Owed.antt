@@ -16,10 +16,11 @@ use Rattle.unit_model.specs.Image.{last_kept}
 abbrev pub rows_in : List ℕ → List ℕ
 rows_in x = bytes_at x OWED.place OWED.size
 
--- where a row begins, and where a cell of it does
+-- where a row begins, counted from the first of them
 abbrev pub row_begin : ℕ → ℕ
 row_begin r = r * OWED_ROW_SIZE
 
+-- and where a cell of it does
 abbrev pub cell_begin : (row cell : ℕ) → ℕ
 cell_begin r i = r * OWED_ROW_SIZE + ROW_CELLS.place + i * CELL_SIZE
 
@@ -33,18 +34,22 @@ pub record OwedRow : Type 0 where
   pub session : ℕ
   pub cells : List Cell
 
+-- the session time of a row, 0 in an empty one
 abbrev pub session_in : List ℕ → ℕ → ℕ
 session_in rows r = number_at rows (row_begin r) ROW_SESSION.size
 
+-- its card number
 abbrev pub number_in : List ℕ → ℕ → List ℕ
 number_in rows r = bytes_at rows (row_begin r + ROW_NUMBER.place) ROW_NUMBER.size
 
+-- one of its cells
 abbrev pub cell_in : List ℕ → (row cell : ℕ) → Cell
 cell_in rows r i = record {
   minute = number_at rows (cell_begin r i) CELL_MINUTE.size;
   word = number_at rows (cell_begin r i + CELL_WORD.place) CELL_WORD.size;
 }
 
+-- the row of an index
 abbrev pub row_in : List ℕ → ℕ → OwedRow
 row_in rows r = record { session = session_in rows r; cells = map (cell_in rows r) (range_with_len 0 CELLS) }
 
@@ -68,6 +73,7 @@ entry_of c = record { minute = c.minute; slot = word_slot c.word; crew = word_cr
 abbrev pub holds : (place : ℕ) → Cell → Bool
 holds i c = c.minute % 4 == i && nat_le 1440 c.minute
 
+-- the entries that cells hold, from the cell at this place on
 abbrev pub cell_entries : (place : ℕ) → List Cell → List Entry
 cell_entries i [] = []
 cell_entries i (c ∷ cells) = if holds i c then entry_of c ∷ cell_entries (i + 1) cells else cell_entries (i + 1) cells
@@ -76,6 +82,7 @@ cell_entries i (c ∷ cells) = if holds i c then entry_of c ∷ cell_entries (i 
 abbrev pub placed : List Entry → Entry → List Entry
 placed es e = insert es (prefix_len (λ f. nat_lt f.minute e.minute) es) e
 
+-- some entries in order of minutes
 abbrev pub in_order : List Entry → List Entry
 in_order es = fold placed [] es
 
@@ -84,6 +91,7 @@ in_order es = fold placed [] es
 abbrev pub counts : (session after kept minute : ℕ) → Bool
 counts session after kept m = nat_le (session / 60) m && (nat_lt after m && nat_le m kept)
 
+-- those of them that count
 abbrev pub counted : (session after kept : ℕ) → List Entry → List Entry
 counted session after kept es = filter (λ e. counts session after kept e.minute) es
 
@@ -102,9 +110,11 @@ pub record Row : Type 0 where
   pub session : ℕ
   pub cells : List Entry
 
+-- so of a row, or of none
 abbrev pub seen_row : Option OwedRow → Row
 seen_row None = record { session = 0; cells = [] }
 seen_row (Some row) = record { session = row.session; cells = in_order (cell_entries 0 row.cells) }
 
+-- so of the row of a number in an image
 unfoldable pub row_view : (number image : List ℕ) → Row
 row_view number x = seen_row (row_of number x)

@@ -4,23 +4,13 @@ use Rattle.std.specs.Prelude.{◌∷◌, slice_set, map, find, fold, if◌then�
 use Rattle.std.specs.List.{range_with_len}
 use Rattle.std.specs.Int.{to_be_bytes, w16, w32}
 use Rattle.activity_codec.specs.declared.entries.Entry.{Entry}
-use Rattle.activity_codec.specs.Words.{word_of}
+pub use Rattle.activity_codec.specs.Words.{entry_word}
 use Rattle.tach_media.specs.Medium.{SameOutside}
 use Rattle.tach_media.specs.Plan.{Piece, piece}
 use Rattle.unit_model.specs.declared.layout.TheConstants.{OWED, OWED_ROWS, ROW_NUMBER, CELL_WORD}
 use Rattle.unit_model.specs.Decoding.{Decodes}
 use Rattle.unit_owed.specs.Owed.{Cell, OwedRow, rows_in, row_begin, cell_begin, session_in, number_in, row_in}
 use Rattle.unit_owed.specs.Owed.{row_index, row_of}
-
--- the word of an entry: its slot, its crew and its activity, with a card, at its minute of the day
-abbrev pub entry_word : Entry → ℕ
-entry_word e = word_of (record {
-  slot = e.slot;
-  crew_or_known = e.crew;
-  absent = false;
-  act = e.act;
-  minute = e.minute % 1440;
-})
 
 -- an entry into a row's cell at its minute modulo 4: the minute to 0, the word, the minute
 abbrev pub cell_pieces : (row minute word : ℕ) → List Piece
@@ -33,6 +23,7 @@ abbrev pub pieces_into : (minute word : ℕ) → Option ℕ → List Piece
 pieces_into m w None = []
 pieces_into m w (Some r) = cell_pieces r m w
 
+-- so by the number
 abbrev pub putting : (number : List ℕ) → (minute word : ℕ) → (rows : List ℕ) → List Piece
 putting number m w rows = pieces_into m w (row_index number rows)
 
@@ -45,16 +36,18 @@ row_pieces r number session =
     ∷ piece (OWED.place + cell_begin r 2) (to_be_bytes w32 0) ∷ piece (OWED.place + cell_begin r 3) (to_be_bytes w32 0)
     ∷ piece (p + ROW_NUMBER.place) number ∷ piece p (to_be_bytes w32 session) ∷ []
 
--- of rows other than one the first that has the least session time
+-- this row is the spared one
 abbrev pub is_this_row : Option ℕ → ℕ → Bool
 is_this_row None r = false
 is_this_row (Some s) r = s == r
 
+-- the best row before this one, or this one where it has a lesser session time; the spared one does not count
 abbrev pub lesser : (rows : List ℕ) → (spared : Option ℕ) → Option ℕ → ℕ → Option ℕ
 lesser rows spared None r = if is_this_row spared r then None else Some r
 lesser rows spared (Some b) r = if is_this_row spared r then Some b
     else (if nat_lt (session_in rows r) (session_in rows b) then Some r else Some b)
 
+-- of the rows but the spared one the first that has the least session time
 abbrev pub least : (rows : List ℕ) → (spared : Option ℕ) → Option ℕ
 least rows spared = fold (lesser rows spared) None (range_with_len 0 OWED_ROWS)
 
@@ -62,10 +55,12 @@ least rows spared = fold (lesser rows spared) None (range_with_len 0 OWED_ROWS)
 abbrev pub empty_index : (rows : List ℕ) → Option ℕ
 empty_index rows = find (λ r. session_in rows r == 0) (range_with_len 0 OWED_ROWS)
 
+-- the first of two, or the second where there is none
 abbrev pub or_else : Option ℕ → Option ℕ → Option ℕ
 or_else (Some r) other = Some r
 or_else None other = other
 
+-- the row of the number that is spared
 abbrev pub spared_index : Option (List ℕ) → (rows : List ℕ) → Option ℕ
 spared_index None rows = None
 spared_index (Some number) rows = row_index number rows
@@ -76,10 +71,12 @@ abbrev pub begun_index : (number : List ℕ) → (spared : Option (List ℕ)) �
 begun_index number spared rows = or_else (row_index number rows)
     (or_else (empty_index rows) (least rows (spared_index spared rows)))
 
+-- the writes that begin the row of an index
 abbrev pub pieces_at : (number : List ℕ) → (session : ℕ) → Option ℕ → List Piece
 pieces_at number session None = []
 pieces_at number session (Some r) = row_pieces r number session
 
+-- the writes that begin a row for a number, with a session time
 abbrev pub beginning : (number : List ℕ) → (session : ℕ) → (spared : Option (List ℕ)) → (rows : List ℕ) → List Piece
 beginning number session spared rows = pieces_at number session (begun_index number spared rows)
 
@@ -98,7 +95,7 @@ IsPuttingCell e old new =
 pub record IsPutting (number : List ℕ) (e : Entry) (x c : List ℕ) : Type 0 where
   pub outside : SameOutside OWED.place OWED.size x c
   pub indices : (n : List ℕ) → row_index n (rows_in c) ≡ row_index n (rows_in x)
-  pub rows : (s : ℕ) → s < 8 → row_index number (rows_in x) ≢ Some s
+  pub rows : (s : ℕ) → s < OWED_ROWS → row_index number (rows_in x) ≢ Some s
       → (number_in (rows_in c) s ≡ number_in (rows_in x) s) × (row_in (rows_in c) s ≡ row_in (rows_in x) s)
   pub others : (n : List ℕ) → n ≢ number → row_of n c ≡ row_of n x
   pub own : (r : ℕ) → row_index number (rows_in x) ≡ Some r
@@ -137,7 +134,7 @@ pub record IsTaken (number : List ℕ) (session r : ℕ) (x y : List ℕ) : Type
 -- session 0, or is begun
 pub record IsRowBeginning (number : List ℕ) (session : ℕ) (spared : Option (List ℕ)) (x c : List ℕ) : Type 0 where
   pub outside : SameOutside OWED.place OWED.size x c
-  pub rows : (s : ℕ) → s < 8 → begun_index number spared (rows_in x) ≢ Some s
+  pub rows : (s : ℕ) → s < OWED_ROWS → begun_index number spared (rows_in x) ≢ Some s
       → (number_in (rows_in c) s ≡ number_in (rows_in x) s) × (row_in (rows_in c) s ≡ row_in (rows_in x) s)
   pub others : (n : List ℕ) → n ≢ number → row_index n (rows_in x) ≢ begun_index number spared (rows_in x)
       → row_of n c ≡ row_of n x

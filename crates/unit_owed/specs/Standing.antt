@@ -2,6 +2,7 @@
 -- alone (profile).
 use Rattle.std.specs.Prelude.{◌≡◌, ◌≢◌, ◌⊎◌, ℕ, ◌<◌, ◌≤◌, true, List, [], ◌∷◌, Option, Some}
 use Rattle.std.specs.List.{AllByRecursion}
+use Rattle.unit_model.specs.declared.layout.TheConstants.{OWED_ROWS}
 use Rattle.unit_model.specs.Image.{last_kept}
 use Rattle.unit_owed.specs.Owed.{Cell, OwedRow, rows_in, session_in, number_in, row_in, is_row_of, owed_to}
 
@@ -34,7 +35,7 @@ RowStands start rows last r = (number_in rows r ≡ number_in (rows_in start) r)
 
 -- no two rows are empty
 abbrev pub HasOneEmpty : List ℕ → Type 0
-HasOneEmpty x = (r s : ℕ) → r < 8 → s < 8 → session_in (rows_in x) r ≡ 0 → session_in (rows_in x) s ≡ 0 → r ≡ s
+HasOneEmpty x = (r s : ℕ) → r < OWED_ROWS → s < OWED_ROWS → session_in (rows_in x) r ≡ 0 → session_in (rows_in x) s ≡ 0 → r ≡ s
 
 -- A ROW WAS TAKEN for a number of some: it is empty, or that number's; and it was one's of them, or empty, or no two
 -- rows were empty.
@@ -46,19 +47,19 @@ pub record IsTakenFor (mine : List ℕ → Type 0) (start rows : List ℕ) (r : 
 
 -- a number has taken no two rows: of two that it has both are one, or both were its
 abbrev pub HasOne : (number start rows : List ℕ) → Type 0
-HasOne number start rows = (r s : ℕ) → r < 8 → s < 8 → is_row_of number rows r ≡ true → is_row_of number rows s ≡ true →
+HasOne number start rows = (r s : ℕ) → r < OWED_ROWS → s < OWED_ROWS → is_row_of number rows r ≡ true → is_row_of number rows s ≡ true →
     (r ≡ s) ⊎ ((is_row_of number (rows_in start) r ≡ true) × (is_row_of number (rows_in start) s ≡ true))
 
 -- A ROW OF ANOTHER IS LOST: it was not empty, and no number of some had it, and it was taken for one of these.
 pub record IsLost (mine : List ℕ → Type 0) (start rows : List ℕ) (r : ℕ) : Type 0 where
-  pub below : r < 8
+  pub below : r < OWED_ROWS
   pub filled : session_in (rows_in start) r ≢ 0
   pub others : mine (number_in (rows_in start) r) → ⊥
   pub taken : IsTakenFor mine start rows r
 
 -- a row was empty, or is lost
 abbrev pub IsGone : (mine : List ℕ → Type 0) → (start rows : List ℕ) → (r : ℕ) → Type 0
-IsGone mine start rows r = ((r < 8) × (session_in (rows_in start) r ≡ 0)) ⊎ IsLost mine start rows r
+IsGone mine start rows r = ((r < OWED_ROWS) × (session_in (rows_in start) r ≡ 0)) ⊎ IsLost mine start rows r
 
 -- there are two of these numbers
 pub record HasTwo (mine : List ℕ → Type 0) : Type 0 where
@@ -78,20 +79,20 @@ pub record LoseFew (mine : List ℕ → Type 0) (start rows : List ℕ) : Type 0
   pub three : (r s t : ℕ) → IsLost mine start rows r → IsGone mine start rows s → IsGone mine start rows t
       → (r ≡ s) ⊎ ((r ≡ t) ⊎ (s ≡ t))
   pub two : (r s : ℕ) → IsLost mine start rows r → IsGone mine start rows s → (r ≡ s) ⊎ HasTwo mine
-  pub least : (r s : ℕ) → IsLost mine start rows r → s < 8 → IsOthers mine rows s
+  pub least : (r s : ℕ) → IsLost mine start rows r → s < OWED_ROWS → IsOthers mine rows s
       → session_in (rows_in start) r ≤ session_in rows s
 
 -- THE ROWS GO ON from those of an image: each stands as it stood, or was taken for a number of some, of which none has
 -- taken two; and of those of others few are lost.
 pub record RowsGoOn (mine : List ℕ → Type 0) (start rows : List ℕ) (last : ℕ) : Type 0 where
   pub on : last_kept start ≤ last
-  pub each : (r : ℕ) → r < 8 → RowStands start rows last r ⊎ IsTakenFor mine start rows r
+  pub each : (r : ℕ) → r < OWED_ROWS → RowStands start rows last r ⊎ IsTakenFor mine start rows r
   pub once : (number : List ℕ) → mine number → HasOne number start rows
   pub few : LoseFew mine start rows
 
 -- and no cell of one that stands is later than the last-kept minute was
 abbrev pub AreMended : (mine : List ℕ → Type 0) → (start rows : List ℕ) → Type 0
-AreMended mine start rows = (r : ℕ) → r < 8
+AreMended mine start rows = (r : ℕ) → r < OWED_ROWS
     → AreLow (last_kept start) (row_in rows r).cells ⊎ IsTakenFor mine start rows r
 
 -- a number is one of two, where they are
@@ -105,7 +106,7 @@ IsOwedStill start y number = (session after : ℕ) → owed_to y number session 
 -- A NUMBER HAS LOST ITS ROW to one of some, where no two rows were empty
 pub record HasLostRow (mine : List ℕ → Type 0) (start y number : List ℕ) : Type 0 where
   pub row : ℕ
-  pub below : row < 8
+  pub below : row < OWED_ROWS
   pub was : is_row_of number (rows_in start) row ≡ true
   pub taken : IsTakenFor mine start (rows_in y) row
   pub full : HasOneEmpty start

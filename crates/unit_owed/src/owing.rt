@@ -1,6 +1,7 @@
+//! What is owed to the card of a number, and which row is begun for it: read at once of all rows.
 ghost use Rattle.std.specs.Prelude.{◌≡◌, ◌≤◌, ◌<◌, ◌+◌, ◌%◌, ◌==◌, ◌&&◌, ◌↔◌, [], fold, is_some, length, nat_lt};
 ghost use Rattle.std.specs.Prelude.{nat_le, true, IfOk, IfSome, is_err, option_map};
-ghost use Rattle.unit_model.specs.declared.layout.TheConstants.{OWED};
+ghost use Rattle.unit_model.specs.declared.layout.TheConstants.{CELLS, OWED, OWED_ROWS};
 ghost use Rattle.std.specs.List.{prefix_len, range_with_len};
 ghost use Rattle.unit_model.specs.Ring.{number_at};
 ghost use Rattle.tach_media.specs.Medium.{Reads};
@@ -10,16 +11,16 @@ ghost use Rattle.unit_owed.specs.Rows.{HasRow, IsRowFor};
 ghost use Rattle.unit_owed.specs.Searching.{with_owed, IsSane};
 
 use crate::rows::{begun_row, number_at, read_rows, row_index, session_in};
-use activity_codec::{Entry, Owed, decode_change};
+use activity_codec::{DAY_MINUTES, Entry, Owed, decode_change};
 use tach_media::{Failed, Medium};
-use unit_model::layout::{
-    CELL_SIZE, CELL_WORD, CELLS, DAY_MINUTES, OWED_ROW_SIZE, ROW_CELLS, WORD_MINUTES,
-};
+use unit_model::layout::{CELL_SIZE, CELL_WORD, CELLS, OWED_ROW_SIZE, ROW_CELLS, WORD_MINUTES};
 
 /// What is asked as a card is put in: the entries that are owed to it, and the row that is begun for it.
 #[derive(Drop)]
 pub struct Asked {
+    /// The entries that are owed to it, in order of minutes.
     pub owed: Owed,
+    /// The index of the row that is begun for it, 0 to 7.
     pub row: u32,
 }
 
@@ -32,7 +33,7 @@ pub struct Owing {
     pub kept: u32,
 }
 
-// How many entries from the front on are earlier than a minute.
+/// How many entries from the front on are earlier than a minute.
 fn place_for(entries: &[Entry], minute: u32) -> usize
     ensures place { result ≡ prefix_len (λ e. nat_lt e.minute minute) entries.now }
     ensures below { result ≤ length entries.now }
@@ -44,7 +45,7 @@ fn place_for(entries: &[Entry], minute: u32) -> usize
     at
 }
 
-// Puts an entry behind those that are earlier.
+/// Puts an entry behind those that are earlier.
 fn place(owed: &mut Owed, entry: Entry)
     requires room { length owed.old.items < 4 }
     ensures placed { owed.new.items ≡ placed owed.old.items entry }
@@ -54,7 +55,7 @@ fn place(owed: &mut Owed, entry: Entry)
     owed.insert(at, entry);
 }
 
-// The entry of a cell.
+/// The entry of a cell.
 fn entry_of(minute: u32, word: u32) -> Entry
     requires { word < 65536 }
     ensures { result ≡ entry_of (record { minute = minute; word = word }) }
@@ -70,9 +71,9 @@ fn entry_of(minute: u32, word: u32) -> Entry
     }
 }
 
-// Adds the entry of a cell, where it holds one that is owed.
+/// Adds the entry of a cell, where it holds one that is owed.
 fn add_cell(owed: &mut Owed, cell: u32, minute: u32, word: u32, owing: Owing)
-    requires cell { cell < 4 }
+    requires cell { cell < CELLS }
     requires word { word < 65536 }
     requires room { length owed.old.items ≤ cell }
     ensures added { owed.new.items
@@ -84,6 +85,7 @@ fn add_cell(owed: &mut Owed, cell: u32, minute: u32, word: u32, owing: Owing)
     }
 }
 
+/// Whether the entry of a cell with this minute is owed.
 fn is_owed(cell: u32, minute: u32, owing: Owing) -> bool
     ensures { result ≡ (minute % 4 == cell && nat_le 1440 minute)
         && counts owing.session owing.after owing.kept minute }
@@ -92,7 +94,7 @@ fn is_owed(cell: u32, minute: u32, owing: Owing) -> bool
         && (owing.session / 60 <= minute && (owing.after < minute && minute <= owing.kept))
 }
 
-// The number in two bytes of the rows.
+/// The number in two bytes of the rows.
 fn word_in(rows: &[u8], place: u32) -> u32
     requires inside { place + 2 ≤ length rows.now }
     ensures value { result ≡ number_at rows.now place 2 }
@@ -102,10 +104,10 @@ fn word_in(rows: &[u8], place: u32) -> u32
     u32::from(u16::from_be_bytes([rows[from], rows[from + 1]]))
 }
 
-// What is owed of the cells of a row.
+/// What is owed of the cells of a row.
 fn owed_cells(rows: &[u8], row: u32, owing: Owing) -> Owed
     requires sized { length rows.now ≡ OWED.size }
-    requires row { row < 8 }
+    requires row { row < OWED_ROWS }
     ensures items { result.items
         ≡ fold (λ es i. with_owed owing.session owing.after owing.kept es i (cell_in rows.now row i)) []
         (range_with_len 0 4) }
@@ -121,10 +123,10 @@ fn owed_cells(rows: &[u8], row: u32, owing: Owing) -> Owed
     owed
 }
 
-// What is owed of a row.
+/// What is owed of a row.
 fn owed_in(rows: &[u8], row: Option<u32>, owing: Owing) -> Owed
     requires sized { length rows.now ≡ OWED.size }
-    requires row { IfSome row (λ r. r < 8) }
+    requires row { IfSome row (λ r. r < OWED_ROWS) }
     ensures items { result.items ≡ owed_of owing.session owing.after owing.kept (option_map (row_in rows.now) row) }
     ensures sane { IsSane owing.after owing.kept result.items }
 {
@@ -142,6 +144,10 @@ fn owed_in(rows: &[u8], row: Option<u32>, owing: Owing) -> Owed
 
 /// The entries that are owed to the card of a number in a session, in order of minutes, of a unit whose last-kept
 /// minute is given.
+///
+/// # Errors
+///
+/// `Failed` where the unit failed.
 pub fn owed<M: Medium>(
     unit: &mut M,
     kept: u32,
@@ -166,6 +172,10 @@ pub fn owed<M: Medium>(
 }
 
 /// The same, and which row is begun for the number, while the row of another one is spared: in one read.
+///
+/// # Errors
+///
+/// `Failed` where the unit failed.
 pub fn ask<M: Medium>(
     unit: &mut M,
     kept: u32,
@@ -181,7 +191,7 @@ pub fn ask<M: Medium>(
         after)) }
     ensures row { IfOk result (λ a. IfSome (M.state unit.old).image (IsRowFor a.row number.now
         (option_map (λ s. s.now) spared.entry))) }
-    ensures low { IfOk result (λ a. a.row < 8) }
+    ensures low { IfOk result (λ a. a.row < OWED_ROWS) }
     ensures reads { Reads (M.state unit.old) (M.state unit.new) (is_err result) }
 {
     let rows = read_rows(unit)?;
@@ -196,6 +206,10 @@ pub fn ask<M: Medium>(
 }
 
 /// Whether a number has a row.
+///
+/// # Errors
+///
+/// `Failed` where the unit failed.
 pub fn has_row<M: Medium>(unit: &mut M, number: &[u8]) -> Result<bool, Failed>
     requires unit { IsUnit (M.state unit.old) }
     ensures row { IfOk result (λ found. IfSome (M.state unit.old).image (λ x. (found ≡ true) ↔ HasRow number.now x)) }

@@ -1,7 +1,7 @@
 //! The bytes of all rows, read in one read, and what stands in them.
 ghost use Rattle.std.specs.Prelude.{◌≡◌, ◌≤◌, ◌<◌, ◌+◌, ◌*◌, ◌==◌, Some, length, IfOk, IfSome, is_err, not, ◌&&◌};
 ghost use Rattle.std.specs.Prelude.{nat_eq, option_map};
-ghost use Rattle.unit_model.specs.declared.layout.TheConstants.{OWED};
+ghost use Rattle.unit_model.specs.declared.layout.TheConstants.{OWED, OWED_ROWS};
 ghost use Rattle.std.specs.Cmp.Lexicographic.{pointwise};
 ghost use Rattle.tach_media.specs.Medium.{Reads};
 ghost use Rattle.unit_model.specs.Ring.{number_at};
@@ -13,13 +13,20 @@ ghost use Rattle.unit_owed.specs.Rows.{is_this_row, lesser, least, empty_index, 
 use tach_media::{Failed, Medium};
 use unit_model::layout::{OWED, OWED_ROW_SIZE, OWED_ROWS, ROW_NUMBER};
 
+/// How many bytes all rows have.
+const ROWS_SIZE: usize = OWED.size as usize;
+
 /// The bytes of all rows.
-pub fn read_rows<M: Medium>(unit: &mut M) -> Result<[u8; 384], Failed>
+///
+/// # Errors
+///
+/// `Failed` where the unit failed.
+pub fn read_rows<M: Medium>(unit: &mut M) -> Result<[u8; ROWS_SIZE], Failed>
     requires unit { IsUnit (M.state unit.old) }
     ensures rows { IfOk result (λ rows. IfSome (M.state unit.old).image (λ x. rows ≡ rows_in x)) }
     ensures reads { Reads (M.state unit.old) (M.state unit.new) (is_err result) }
 {
-    let mut rows = [0; 384];
+    let mut rows = [0; ROWS_SIZE];
     unit.read_at(OWED.place, &mut rows)?;
     Ok(rows)
 }
@@ -39,28 +46,28 @@ pub fn number_at(rows: &[u8], place: u32, len: u32) -> u32
 /// The session time of a row.
 pub fn session_in(rows: &[u8], row: u32) -> u32
     requires sized { length rows.now ≡ OWED.size }
-    requires row { row < 8 }
+    requires row { row < OWED_ROWS }
     ensures session { result ≡ session_in rows.now row }
 {
     number_at(rows, row * OWED_ROW_SIZE, 4)
 }
 
-// Whether a row is that of a number.
+/// Whether a row is that of a number.
 fn is_row_of(rows: &[u8], row: u32, number: &[u8]) -> bool
     requires sized { length rows.now ≡ OWED.size }
-    requires row { row < 8 }
+    requires row { row < OWED_ROWS }
     ensures { result ≡ is_row_of number.now rows.now row }
 {
     let from = (row * OWED_ROW_SIZE + ROW_NUMBER.place) as usize;
-    session_in(rows, row) != 0 && &rows[from..from + 18] == number
+    session_in(rows, row) != 0 && &rows[from..from + ROW_NUMBER.size as usize] == number
 }
 
-// The row that was found before, else this one where it is one.
+/// The row that was found before, else this one where it is one.
 fn or_this(found: Option<u32>, row: u32, is: bool) -> Option<u32>
-    requires row { row < 8 }
-    requires found { IfSome found (λ r. r < 8) }
+    requires row { row < OWED_ROWS }
+    requires found { IfSome found (λ r. r < OWED_ROWS) }
     ensures row { result ≡ or_this found row is }
-    ensures below { IfSome result (λ r. r < 8) }
+    ensures below { IfSome result (λ r. r < OWED_ROWS) }
 {
     match found {
         Some(other) => Some(other),
@@ -72,7 +79,7 @@ fn or_this(found: Option<u32>, row: u32, is: bool) -> Option<u32>
 pub fn row_index(rows: &[u8], number: &[u8]) -> Option<u32>
     requires sized { length rows.now ≡ OWED.size }
     ensures row { result ≡ row_index number.now rows.now }
-    ensures below { IfSome result (λ r. r < 8) }
+    ensures below { IfSome result (λ r. r < OWED_ROWS) }
 {
     let mut found = None;
     for row in 0..OWED_ROWS {
@@ -81,11 +88,11 @@ pub fn row_index(rows: &[u8], number: &[u8]) -> Option<u32>
     found
 }
 
-// The lowest empty row.
+/// The lowest empty row.
 fn empty_index(rows: &[u8]) -> Option<u32>
     requires sized { length rows.now ≡ OWED.size }
     ensures row { result ≡ empty_index rows.now }
-    ensures below { IfSome result (λ r. r < 8) }
+    ensures below { IfSome result (λ r. r < OWED_ROWS) }
 {
     let mut found = None;
     for row in 0..OWED_ROWS {
@@ -94,13 +101,13 @@ fn empty_index(rows: &[u8]) -> Option<u32>
     found
 }
 
-// Of a row and the best one before it the one with the lesser session time; the spared one doesn't count.
+/// Of a row and the best one before it the one with the lesser session time; the spared one doesn't count.
 fn lesser(rows: &[u8], spared: Option<u32>, best: Option<u32>, row: u32) -> Option<u32>
     requires sized { length rows.now ≡ OWED.size }
-    requires row { row < 8 }
-    requires best { IfSome best (λ r. r < 8) }
+    requires row { row < OWED_ROWS }
+    requires best { IfSome best (λ r. r < OWED_ROWS) }
     ensures row { result ≡ lesser rows.now spared best row }
-    ensures below { IfSome result (λ r. r < 8) }
+    ensures below { IfSome result (λ r. r < OWED_ROWS) }
 {
     if is_this_row(spared, row) {
         return best;
@@ -117,6 +124,7 @@ fn lesser(rows: &[u8], spared: Option<u32>, best: Option<u32>, row: u32) -> Opti
     }
 }
 
+/// Whether a row is the spared one.
 fn is_this_row(spared: Option<u32>, row: u32) -> bool
     ensures { result ≡ is_this_row spared row }
 {
@@ -126,11 +134,11 @@ fn is_this_row(spared: Option<u32>, row: u32) -> bool
     }
 }
 
-// Of the rows but the spared one the first that has the least session time.
+/// Of the rows but the spared one the first that has the least session time.
 fn least(rows: &[u8], spared: Option<u32>) -> Option<u32>
     requires sized { length rows.now ≡ OWED.size }
     ensures row { result ≡ least rows.now spared }
-    ensures below { IfSome result (λ r. r < 8) }
+    ensures below { IfSome result (λ r. r < OWED_ROWS) }
 {
     let mut best = None;
     for row in 0..OWED_ROWS {
@@ -139,7 +147,7 @@ fn least(rows: &[u8], spared: Option<u32>) -> Option<u32>
     best
 }
 
-// The row of a number that is spared.
+/// The row of a number that is spared.
 fn spared_index(rows: &[u8], spared: Option<&[u8]>) -> Option<u32>
     requires sized { length rows.now ≡ OWED.size }
     ensures row { result ≡ spared_index (option_map (λ s. s.now) spared.entry) rows.now }
@@ -155,7 +163,7 @@ fn spared_index(rows: &[u8], spared: Option<&[u8]>) -> Option<u32>
 pub fn begun_index(rows: &[u8], number: &[u8], spared: Option<&[u8]>) -> Option<u32>
     requires sized { length rows.now ≡ OWED.size }
     ensures row { result ≡ begun_index number.now (option_map (λ s. s.now) spared.entry) rows.now }
-    ensures below { IfSome result (λ r. r < 8) }
+    ensures below { IfSome result (λ r. r < OWED_ROWS) }
 {
     if let Some(row) = row_index(rows, number) {
         return Some(row);
@@ -170,7 +178,7 @@ pub fn begun_index(rows: &[u8], number: &[u8], spared: Option<&[u8]>) -> Option<
 pub fn begun_row(rows: &[u8], number: &[u8], spared: Option<&[u8]>) -> u32
     requires sized { length rows.now ≡ OWED.size }
     ensures row { begun_index number.now (option_map (λ s. s.now) spared.entry) rows.now ≡ Some result }
-    ensures below { result < 8 }
+    ensures below { result < OWED_ROWS }
 {
     match begun_index(rows, number, spared) {
         Some(row) => row,

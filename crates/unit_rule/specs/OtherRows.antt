@@ -11,6 +11,7 @@ abbrev pub number_by : (bad : Option (Fid × ℕ)) → (number : List ℕ) → O
 number_by None number = Some number
 number_by (Some place) number = None
 
+-- so of a card's image
 abbrev pub valid_number : List ℕ → Option (List ℕ)
 valid_number x = number_by (own_bad_file x) (own_number x)
 

@@ -45,11 +45,11 @@ once_mended s = record s { mended = true }
 abbrev pub IsCards : Started → List ℕ → Type 0
 IsCards s number = IsOneOf s.number_a s.number_b number
 
--- the owed rows of an image go on from the start's, and no cell of one that stands is later than the last-kept minute
--- was
+-- the owed rows of an image go on from the start's
 abbrev pub HasRowsOn : Started → List ℕ → Type 0
 HasRowsOn s x = RowsGoOn (IsOneOf s.number_a s.number_b) s.image (rows_in x) (last_kept x)
 
+-- and no cell of one that stands since the start is later than the last-kept minute was then
 abbrev pub HasRowsMended : Started → List ℕ → Type 0
 HasRowsMended s x = AreMended (IsOneOf s.number_a s.number_b) s.image (rows_in x)
 

@@ -1,3 +1,4 @@
+//! Laws on the definitions of specs/: they run nothing, and their contracts say what is proved of them.
 ghost use Rattle.std.specs.Prelude.{◌≡◌, ◌⊎◌, ◌+◌, ◌<◌, ◌++◌, ◌∷◌, [], min, map, Option, Some, None, ℕ, List};
 ghost use Rattle.unit_minutes.specs.unit_model.declared.layout.TheConstants.{HIGHEST_ODOMETER};
 ghost use Rattle.run_unit_course.specs.run_model.declared.Device.TheVariants.{Unit as Recorder};

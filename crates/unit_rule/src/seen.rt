@@ -1,3 +1,4 @@
+//! Laws: what each call on a journal is to one who sees the unit by its views.
 ghost use Rattle.std.specs.Prelude.{◌≡◌, ◌≢◌, ◌<◌, ◌≤◌, ℕ, List, [], Some, All, length};
 ghost use Rattle.unit_minutes.specs.activity_codec.declared.entries.Entry.{Entry};
 ghost use Rattle.run_unit_course.specs.trace_model.declared.Card.TheVariants.{A, B};

@@ -12,6 +12,7 @@ abbrev pub same_bool : Bool → Bool → Bool
 same_bool true b = b
 same_bool false b = not b
 
+-- two states of a slot are the same
 abbrev pub same_state : State → State → Bool
 same_state a b = same_activity a.act b.act && same_bool a.present b.present
 

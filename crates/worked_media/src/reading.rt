@@ -53,6 +53,7 @@ pub struct Held {
     pub words: Vec<u16>,
 }
 
+/// Revives a unit, and reads what it holds of the day of a second.
 pub fn held_by_unit<U: Medium>(alloc: Global, unit: &mut U, second: u32) -> Result<Held, Untold> {
     if unit.size() != IMAGE_SIZE {
         return Err(Untold::Size);

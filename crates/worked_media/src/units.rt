@@ -15,14 +15,16 @@ use tach_media::{Left, Medium, MemMedium, Memory, Stop};
 use tacho_types::{FullCardNumber, Name36, Nation};
 use unit_model::layout::{IMAGE_SIZE, RULE_BYTE, VERSION};
 
-/// 2010-03-01 00:00, and its minute.
+/// 2010-03-01 00:00, in seconds since 1970-01-01 00:00 GMT.
 pub const T0: u32 = 1267401600;
 
+/// Its minute.
 pub const M0: u32 = 21123360;
 
-/// The numbers of the two cards.
+/// The number of the first card.
 pub const NUMBER_A: &[u8; 16] = b"DEMO000000000000";
 
+/// And that of the second one.
 pub const NUMBER_B: &[u8; 16] = b"DEMO000000000100";
 
 /// The first card's identity.

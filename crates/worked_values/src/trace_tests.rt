@@ -173,16 +173,16 @@ fn lines_that_are_none(rt: HostRuntime) -> Result<(), Fail> {
     Ok(())
 }
 
-/// Each line behind `start`, whether it is one of the form of minutes, and of that of the unit alone.
-const OF_FORMS: [(&[u8], bool, bool); 8] = [
-    (b"start 86400\nrun 1 0", true, true),
-    (b"start 86400\nselect codriver work", true, true),
-    (b"start 86400\noff 1", false, true),
-    (b"start 86400\ninsert driver a", false, false),
-    (b"start 86400\nwithdraw driver", false, false),
-    (b"start 86400\ntear driver", false, false),
-    (b"start 86400\nplace driver begin 1 1", false, false),
-    (b"start 86400\nmanual driver rest 0", false, false),
+/// Each line behind `start`, and whether it is one of the form of minutes.
+const OF_FORMS: [(&[u8], bool); 8] = [
+    (b"start 86400\nrun 1 0", true),
+    (b"start 86400\nselect codriver work", true),
+    (b"start 86400\noff 1", false),
+    (b"start 86400\ninsert driver a", false),
+    (b"start 86400\nwithdraw driver", false),
+    (b"start 86400\ntear driver", false),
+    (b"start 86400\nplace driver begin 1 1", false),
+    (b"start 86400\nmanual driver rest 0", false),
 ];
 
 /// Its second line is wrong in this form, where it is none of its lines.
@@ -198,9 +198,8 @@ fn is_of(
 
 #[test]
 fn each_form_has_its_lines(rt: HostRuntime) -> Result<(), Fail> {
-    for (text, of_minutes, of_unit) in OF_FORMS {
+    for (text, of_minutes) in OF_FORMS {
         is_of(&rt, text, Form::Minutes, of_minutes)?;
-        is_of(&rt, text, Form::UnitAlone, of_unit)?;
         is_of(&rt, text, Form::Whole, true)?;
     }
     Ok(())
@@ -211,20 +210,20 @@ fn each_form_has_its_lines(rt: HostRuntime) -> Result<(), Fail> {
 fn a_line_of_cards_is_told_by_its_number(rt: HostRuntime) -> Result<(), Fail> {
     let texts: [(&[u8], TraceFault); 3] = [
         (
-            b"# no cards\nstart 86400\nrun 60 0\noff 60\n\nselect driver work\ninsert driver a\nrun 60 0\n",
+            b"# no cards\nstart 86400\nrun 60 0\nrun 60 0\n\nselect driver work\ninsert driver a\nrun 60 0\n",
             TraceFault::BadLine(7),
         ),
         (
-            b"start 86400\nrun 34560000 0\noff 1\ntear driver\n",
+            b"start 86400\nrun 34560000 0\nrun 1 0\ntear driver\n",
             TraceFault::TooLong(3),
         ),
         (
-            b"start 86400\nrun 34560000 0\ntear driver\noff 1\n",
+            b"start 86400\nrun 34560000 0\ntear driver\nrun 1 0\n",
             TraceFault::BadLine(3),
         ),
     ];
     for (text, fault) in texts {
-        fails_in(&rt, text, Form::UnitAlone, Some(fault))?;
+        fails_in(&rt, text, Form::Minutes, Some(fault))?;
     }
     Ok(())
 }

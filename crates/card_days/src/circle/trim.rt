@@ -1,5 +1,6 @@
+//! The days and words that are later than a minute go.
 ghost use Rattle.std.specs.Prelude.{◌≡◌, ◌≤◌, ◌<◌, ◌+◌, List, length, IfOk, OnOk, IfSome, is_err, option_map};
-ghost use Rattle.std.specs.Prelude.{true, [], ◌≢◌};
+ghost use Rattle.std.specs.Prelude.{true, []};
 ghost use Rattle.card_model.specs.declared.lengths.TheConstants.{DAYS_MOST};
 ghost use Rattle.tach_media.specs.Medium.{LeavesOnly, Reads, HasCause, LiesInside, IsPartlyWritten, IsSettled};
 ghost use Rattle.tach_media.specs.Medium.{last_count, put};
@@ -9,10 +10,9 @@ ghost use Rattle.card_model.specs.Changes.{early, until, date_of, cut};
 ghost use Rattle.card_model.specs.Image.{HoldsDays, IsAt, IsPointer, IsStringShape};
 ghost use Rattle.card_days.specs.Moments.{FileFitsIn};
 ghost use Rattle.card_days.specs.Rears.{IsRear, LiesOn};
-ghost use Rattle.card_days.specs.Steps.{SettlesIfSettled};
 ghost use Rattle.card_days.specs.Trim.{IsWithoutLast, IsLosingLast, IsTrimming, IsCutLast};
-ghost use Rattle.card_days.specs.Trim.{IsCuttingLast, IsTrim, IsTrimMoment, WritesWhereDays};
-ghost use Rattle.card_days.specs.Calls.{DroppedDays};
+ghost use Rattle.card_days.specs.Trim.{IsCuttingLast, IsTrimMoment, WritesWhereDays};
+ghost use Rattle.card_days.specs.Calls.{DroppedDays, TrimmedDays};
 
 use super::Circle;
 use crate::bytes::write_two;
@@ -22,7 +22,7 @@ use card_model::lengths::{DAY_HEAD, DAY_LEAST, DAYS_MOST};
 use tach_media::{Failed, Medium};
 
 impl Circle {
-    // Writes the newest pointer.
+    /// Writes the newest pointer.
     fn put_newest<M: Medium>(&self, medium: &mut M, n: u32) -> Result<(), Failed>
         requires fits { FileFitsIn self.now (M.state medium.old) }
         requires writable { LiesInside (M.state medium.old).writable self.now.base (4 + self.now.size) }
@@ -38,7 +38,7 @@ impl Circle {
         write_two(medium, self.base + 2, n)
     }
 
-    // Drops the newest day, as it was read. What stands at the newest end then.
+    /// Drops the newest day, as it was read. What stands at the newest end then.
     fn drop_newest<M: Medium>(&self, medium: &mut M, rear: Rear) -> Result<Rear, Failed>
         requires fits { FileFitsIn self.now (M.state medium.old) }
         requires writable { LiesInside (M.state medium.old).writable self.now.base (4 + self.now.size) }
@@ -64,8 +64,8 @@ impl Circle {
         self.rear_at(medium, rear.oldest, newest, rear.block)
     }
 
-    // Drops the days later than a date, the newest first, each by a write of its own; their heads are read in blocks. A
-    // stop at a moment of the call leaves a list between the days before and those up to the date.
+    /// Drops the days later than a date, the newest first, each by a write of its own; their heads are read in blocks.
+    /// A stop at a moment of the call leaves a list between the days before and those up to the date.
     pub(crate) fn drop_later<M: Medium>(&self, medium: &mut M, date: u64) -> Result<(), Failed>
         requires fits { FileFitsIn self.now (M.state medium.old) }
         requires writable { LiesInside (M.state medium.old).writable self.now.base (4 + self.now.size) }
@@ -91,8 +91,8 @@ impl Circle {
         Ok(())
     }
 
-    // How many words of the day at a place are not later than a minute of the day. They ascend, so each word that is
-    // read halves those that are left to look at.
+    /// How many words of the day at a place are not later than a minute of the day. They ascend, so each word that is
+    /// read halves those that are left to look at.
     pub(crate) fn words_until<M: Medium>(
         &self,
         medium: &mut M,
@@ -124,7 +124,7 @@ impl Circle {
         Ok(kept)
     }
 
-    // How many words stay of the day at a place, which has this date and so many words.
+    /// How many words stay of the day at a place, which has this date and so many words.
     fn kept_words<M: Medium>(
         &self,
         medium: &mut M,
@@ -149,7 +149,7 @@ impl Circle {
         self.words_until(medium, place, count, minute % DAY_MINUTES)
     }
 
-    // Cuts the newest day, if there is one, behind its last word that is not later than a minute.
+    /// Cuts the newest day, if there is one, behind its last word that is not later than a minute.
     fn cut<M: Medium>(&self, medium: &mut M, minute: u32) -> Result<(), Failed>
         requires fits { FileFitsIn self.now (M.state medium.old) }
         requires writable { LiesInside (M.state medium.old).writable self.now.base (4 + self.now.size) }
@@ -173,19 +173,14 @@ impl Circle {
         self.put_two(medium, self.spot(newest, 2), DAY_HEAD + 2 * kept as u32)
     }
 
-    // Leaves no day and no word later than a minute: the days later than the minute's day go, the newest first, and
-    // then the words of the newest day that are later. A stop at a moment of the call leaves a list of days between.
-    // Where there is no day, it only reads.
+    /// Leaves no day and no word later than a minute: the days later than the minute's day go, the newest first, and
+    /// then the words of the newest day that are later. A stop at a moment of the call leaves a list of days between.
+    /// Where there is no day, it only reads.
     pub(crate) fn trim<M: Medium>(&self, medium: &mut M, minute: u32) -> Result<(), Failed>
         requires fits { FileFitsIn self.now (M.state medium.old) }
         requires writable { LiesInside (M.state medium.old).writable self.now.base (4 + self.now.size) }
-        ensures trimmed { OnOk result (IfSome (M.state medium.old).image
-            (λ x. IfSome (M.state medium.new).image (IsTrim self.now minute x))) }
+        ensures trimmed { OnOk result (TrimmedDays self.now minute (M.state medium.old) (M.state medium.new)) }
         ensures moments { LeavesOnly (M.state medium.old) (M.state medium.new) (IsTrimMoment self.now minute) }
-        ensures settled { OnOk result (IfSome (M.state medium.old).image
-            (λ x. (days : List Day) → HoldsDays self.now x days → days ≢ [] → (M.state medium.new).clock < last_count
-            → IsSettled (M.state medium.new))) }
-        ensures still { OnOk result (SettlesIfSettled (M.state medium.old) (M.state medium.new)) }
         ensures empty { IfSome (M.state medium.old).image
             (λ x. HoldsDays self.now x [] → Reads (M.state medium.old) (M.state medium.new) (is_err result)) }
         ensures cause { HasCause (M.state medium.old) (M.state medium.new) (is_err result) }
@@ -200,7 +195,7 @@ impl Circle {
     }
 }
 
-// The first second of a minute's day.
+/// The first second of a minute's day.
 fn first_second(minute: u32) -> u64
     ensures { result ≡ date_of minute }
 {

@@ -1,3 +1,4 @@
+//! The writes of a call on the string, in their order, before the first of them is made.
 ghost use Rattle.std.specs.Prelude.{◌≡◌, ◌≤◌, ◌<◌, ◌+◌, ◌-◌, ◌*◌, ◌%◌, ◌∷◌, [], length, true, IfOk, OnOk, OnErr};
 ghost use Rattle.std.specs.Prelude.{IfSome};
 ghost use Rattle.card_model.specs.declared.lengths.TheConstants.{DAY_LEAST, DAY_MOST};
@@ -27,7 +28,7 @@ pub fn two_bytes(n: u32) -> [u8; 2]
     [(n / 256) as u8, (n % 256) as u8]
 }
 
-// A number as the length of a day that goes, which counts the least of a day where it is none.
+/// A number as the length of a day that goes, which counts the least of a day where it is none.
 fn dropped_len(n: u32) -> u32
     ensures len { result ≡ dropped_len n }
     ensures even { result % 2 ≡ 0 }
@@ -42,7 +43,7 @@ fn dropped_len(n: u32) -> u32
 }
 
 impl Days {
-    // The length of the newest day, 0 without one.
+    /// The length of the newest day, 0 without one.
     pub(crate) fn newest_len(&self) -> u32
         ensures len { result ≡ newest_len self.now }
         ensures even { result % 2 ≡ 0 }
@@ -55,7 +56,7 @@ impl Days {
         }
     }
 
-    // The place behind the newest day.
+    /// The place behind the newest day.
     pub(crate) fn end(&self) -> u32
         ensures place { result ≡ end_of self.now }
         ensures pointer { IsPointer self.now.shape.size result }
@@ -64,7 +65,7 @@ impl Days {
         self.circle.spot(self.tail.head.place, self.newest_len())
     }
 
-    // Where the oldest day begins, if the days have so many bytes.
+    /// Where the oldest day begins, if the days have so many bytes.
     pub(crate) fn oldest(&self, used: u32) -> u32
         requires most { used ≤ self.now.shape.size }
         requires even { used % 2 ≡ 0 }
@@ -75,7 +76,7 @@ impl Days {
         self.circle.spot(self.end(), self.circle.size() - used)
     }
 
-    // No write on the string yet.
+    /// No write on the string yet.
     pub(crate) fn writing(&self) -> Writing
         ensures { result ≡ none self.now.shape.base (self.now.shape.base + (4 + self.now.shape.size)) }
     {
@@ -83,7 +84,7 @@ impl Days {
         Writing::new(base, base + (4 + self.circle.size()))
     }
 
-    // Adds a write on the string.
+    /// Adds a write on the string.
     pub(crate) fn plan_at(&self, plan: &mut Writing, place: u32, bytes: &[u8])
         requires from { plan.old.from ≡ self.now.shape.base }
         requires end { plan.old.end ≡ self.now.shape.base + (4 + self.now.shape.size) }
@@ -96,7 +97,7 @@ impl Days {
         plan.put(self.circle.base() + 4 + place, bytes);
     }
 
-    // Adds the write of a number on the string.
+    /// Adds the write of a number on the string.
     pub(crate) fn plan_two(&self, plan: &mut Writing, place: u32, n: u32)
         requires from { plan.old.from ≡ self.now.shape.base }
         requires end { plan.old.end ≡ self.now.shape.base + (4 + self.now.shape.size) }
@@ -108,7 +109,7 @@ impl Days {
         self.plan_at(plan, place, &two_bytes(n));
     }
 
-    // Adds a drop of the oldest day, after which so many bytes are in use.
+    /// Adds a drop of the oldest day, after which so many bytes are in use.
     fn plan_drop(&self, plan: &mut Writing, left: u32)
         requires from { plan.old.from ≡ self.now.shape.base }
         requires end { plan.old.end ≡ self.now.shape.base + (4 + self.now.shape.size) }
@@ -123,7 +124,7 @@ impl Days {
         self.plan_two(plan, oldest, 0);
     }
 
-    // Adds the drop of the oldest day, where these and so many bytes more do not fit: how many are in use then.
+    /// Adds the drop of the oldest day, where these and so many bytes more do not fit: how many are in use then.
     pub(crate) fn make_room<M: Medium>(
         &self,
         medium: &mut M,
@@ -158,7 +159,7 @@ impl Days {
         Ok(left)
     }
 
-    // Adds a word behind the newest day, and the length that counts it.
+    /// Adds a word behind the newest day, and the length that counts it.
     pub(crate) fn plan_word(&self, plan: &mut Writing, word: u16)
         requires from { plan.old.from ≡ self.now.shape.base }
         requires end { plan.old.end ≡ self.now.shape.base + (4 + self.now.shape.size) }
@@ -170,7 +171,7 @@ impl Days {
         self.plan_two(plan, field, self.newest_len() + 2);
     }
 
-    // Adds bytes on the string, round its end.
+    /// Adds bytes on the string, round its end.
     fn plan_round(&self, plan: &mut Writing, place: u32, bytes: &[u8])
         requires from { plan.old.from ≡ self.now.shape.base }
         requires end { plan.old.end ≡ self.now.shape.base + (4 + self.now.shape.size) }
@@ -190,7 +191,7 @@ impl Days {
         self.plan_at(plan, 0, &bytes[room..]);
     }
 
-    // Adds the newest pointer, where it differs.
+    /// Adds the newest pointer, where it differs.
     fn plan_pointer(&self, plan: &mut Writing, place: u32)
         requires from { plan.old.from ≡ self.now.shape.base }
         requires end { plan.old.end ≡ self.now.shape.base + (4 + self.now.shape.size) }
@@ -204,7 +205,7 @@ impl Days {
         plan.put(self.circle.base() + 2, &two_bytes(place));
     }
 
-    // Adds a day behind the newest: the length before it, its body, its length, and the newest pointer.
+    /// Adds a day behind the newest: the length before it, its body, its length, and the newest pointer.
     pub(crate) fn plan_day(&self, plan: &mut Writing, bytes: &[u8])
         requires from { plan.old.from ≡ self.now.shape.base }
         requires end { plan.old.end ≡ self.now.shape.base + (4 + self.now.shape.size) }
@@ -220,7 +221,7 @@ impl Days {
         self.plan_pointer(plan, place);
     }
 
-    // The counter of the next day.
+    /// The counter of the next day.
     pub(crate) fn next_counter(&self) -> u32
         ensures counter { result ≡ count_of self.now }
         ensures most { result ≤ 9999 }

@@ -1,3 +1,4 @@
+//! The calls that write days, words and distances.
 ghost use Rattle.std.specs.Prelude.{◌≡◌, ◌⊎◌, false, [], ◌≤◌, ◌<◌, ◌+◌, ◌-◌, ◌*◌, ◌%◌, List, length, IfOk, OnOk};
 ghost use Rattle.std.specs.Prelude.{IfSome, is_err};
 ghost use Rattle.card_model.specs.declared.lengths.TheConstants.{DAYS_MOST};
@@ -24,7 +25,7 @@ use tach_media::{Failed, Medium, put_pieces};
 use tacho_types::{Bcd2, Distance, TimeReal};
 
 impl Days {
-    // Makes the writes of a change: how many bytes are in use then.
+    /// Makes the writes of a change: how many bytes are in use then.
     fn change<M: Medium>(&self, medium: &mut M, word: u16) -> Result<u32, Failed>
         requires fits { FileFitsIn self.now.shape (M.state medium.old) }
         requires writable { LiesInside (M.state medium.old).writable self.now.shape.base (4 + self.now.shape.size) }
@@ -47,7 +48,7 @@ impl Days {
         Ok(left + 2)
     }
 
-    // Makes the writes of a new day: how many bytes are in use then.
+    /// Makes the writes of a new day: how many bytes are in use then.
     fn begin<M: Medium>(&self, medium: &mut M, date: u32, words: &[u16]) -> Result<u32, Failed>
         requires fits { FileFitsIn self.now.shape (M.state medium.old) }
         requires writable { LiesInside (M.state medium.old).writable self.now.shape.base (4 + self.now.shape.size) }
@@ -76,7 +77,7 @@ impl Days {
         Ok(twice + new)
     }
 
-    // The tail with that day.
+    /// The tail with that day.
     fn new_tail(&self, date: TimeReal, words: &[u16], used: u32) -> Tail
         requires some { 1 ≤ length words.now }
         requires few { length words.now ≤ 2 }
@@ -100,6 +101,10 @@ impl Days {
 
     /// Begins a day. The oldest days go where there is no room. A stop at a moment of the call leaves the days before,
     /// without those of the oldest that must go, or the new list.
+    ///
+    /// # Errors
+    ///
+    /// `Failed` where a call on the medium failed. What is kept is given up then: the string is loaded again.
     pub fn begin_day<M: Medium>(
         &mut self,
         medium: &mut M,
@@ -132,6 +137,10 @@ impl Days {
 
     /// Adds a word to the newest day. The oldest day goes where there is no room. A stop at a moment of the call leaves
     /// the days before, without the oldest where it must go, or the new ones.
+    ///
+    /// # Errors
+    ///
+    /// `Failed` where a call on the medium failed. What is kept is given up then: the string is loaded again.
     pub fn add_change<M: Medium>(&mut self, medium: &mut M, word: u16) -> Result<(), Failed>
         requires fits { FileFitsIn self.old.shape (M.state medium.old) }
         requires writable { LiesInside (M.state medium.old).writable self.old.shape.base (4 + self.old.shape.size) }
@@ -153,7 +162,7 @@ impl Days {
         Ok(())
     }
 
-    // Clears the length before the oldest day.
+    /// Clears the length before the oldest day.
     fn clear_oldest<M: Medium>(&self, medium: &mut M) -> Result<(), Failed>
         requires fits { FileFitsIn self.now.shape (M.state medium.old) }
         requires writable { LiesInside (M.state medium.old).writable self.now.shape.base (4 + self.now.shape.size) }
@@ -167,6 +176,10 @@ impl Days {
 
     /// Ends a drop that a stop may have cut short: the oldest day has no length before it. Where there is no day, it
     /// makes no call.
+    ///
+    /// # Errors
+    ///
+    /// `Failed` where a call on the medium failed. What is kept is given up then: the string is loaded again.
     pub fn finish_drop<M: Medium>(&mut self, medium: &mut M) -> Result<(), Failed>
         requires fits { FileFitsIn self.old.shape (M.state medium.old) }
         requires writable { LiesInside (M.state medium.old).writable self.old.shape.base (4 + self.old.shape.size) }
@@ -188,7 +201,7 @@ impl Days {
         self.clear_oldest(medium)
     }
 
-    // Writes the distance of the newest day.
+    /// Writes the distance of the newest day.
     fn write_km<M: Medium>(&self, medium: &mut M, km: u16) -> Result<(), Failed>
         requires fits { FileFitsIn self.now.shape (M.state medium.old) }
         requires writable { LiesInside (M.state medium.old).writable self.now.shape.base (4 + self.now.shape.size) }
@@ -201,6 +214,10 @@ impl Days {
     }
 
     /// Sets the distance of the newest day, which there is.
+    ///
+    /// # Errors
+    ///
+    /// `Failed` where a call on the medium failed. What is kept is given up then: the string is loaded again.
     pub fn set_distance<M: Medium>(&mut self, medium: &mut M, km: Distance) -> Result<(), Failed>
         requires fits { FileFitsIn self.old.shape (M.state medium.old) }
         requires writable { LiesInside (M.state medium.old).writable self.old.shape.base (4 + self.old.shape.size) }
@@ -219,6 +236,10 @@ impl Days {
     /// Leaves no day and no word later than a minute: the days later than the minute's day go, the newest first, and
     /// then the words of the newest day that are later. A stop at a moment of the call leaves a list of days between.
     /// Where there is no day, it only reads. It reads the string, and not what was kept of it.
+    ///
+    /// # Errors
+    ///
+    /// `Failed` where a call on the medium failed. What is kept is given up then: the string is loaded again.
     pub fn trim<M: Medium>(&mut self, medium: &mut M, minute: u32) -> Result<(), Failed>
         requires fits { FileFitsIn self.old.shape (M.state medium.old) }
         requires writable { LiesInside (M.state medium.old).writable self.old.shape.base (4 + self.old.shape.size) }
@@ -240,7 +261,7 @@ impl Days {
     }
 }
 
-// The tail with a word more.
+/// The tail with a word more.
 fn with_word(tail: &Tail, word: u16, used: u32) -> Tail
     ensures tail { result ≡ tail_more tail.now word used }
     ensures few { tail.now.head.words ≤ 1440 → result.head.words ≤ 1440 }
@@ -252,14 +273,18 @@ fn with_word(tail: &Tail, word: u16, used: u32) -> Tail
             date: tail.head.date,
             counter: tail.head.counter,
             km: tail.head.km,
-            words: if words < DAY_MINUTES as u16 { words + 1 } else { words },
+            words: if words < DAY_MINUTES as u16 {
+                words + 1
+            } else {
+                words
+            },
         },
         latest: word,
         used,
     }
 }
 
-// The tail with another distance of the newest day.
+/// The tail with another distance of the newest day.
 fn with_km(tail: &Tail, km: Distance) -> Tail
     ensures tail { result ≡ tail_km tail.now km.0 }
 {

@@ -14,14 +14,16 @@ use crate::outline::rows::{
     pass_places, pass_table, pass_words,
 };
 use crate::outline::{DayOutline, EventOutline, Plan, Times};
-use crate::parts::SERVICE;
 use crate::window::Window;
+use link_model::services::{
+    DAY_NUMBER, EVENTS_NUMBER, MESSAGE, OVERVIEW_NUMBER, SPEED_NUMBER, TECHNICAL_NUMBER,
+};
 use tach_media::{Failed, Medium};
 use unit_model::layout::{
     Field, IDENTIFICATION, REGISTRATION, SENSOR, STATE_CERTIFICATE, UNIT_CERTIFICATE, VIN,
 };
 
-// A number of four bytes passes by.
+/// A number of four bytes passes by.
 fn pass_number(window: &mut Window, number: u32)
     ensures { window.new ≡ passed window.old (big_bytes 4 number) }
 {
@@ -29,7 +31,7 @@ fn pass_number(window: &mut Window, number: u32)
     window.pass(&bytes);
 }
 
-// A number of three bytes passes by.
+/// A number of three bytes passes by.
 fn pass_odometer(window: &mut Window, number: u32)
     ensures { window.new ≡ passed window.old (big_bytes 3 number) }
 {
@@ -37,7 +39,7 @@ fn pass_odometer(window: &mut Window, number: u32)
     window.pass(&bytes[1..]);
 }
 
-// Two fields of the image pass by.
+/// Two fields of the image pass by.
 fn pass_fields<M: Medium>(
     unit: &mut M,
     first: Field,
@@ -71,7 +73,7 @@ pub fn pass_overview<M: Medium>(
         (λ x. AreTimes x times → HasPassed (Plan.Overview times) x window.old window.new)) }
     ensures reads { ReadsIfAny (M.state unit.old) (M.state unit.new) (is_err result) }
 {
-    window.pass(&[SERVICE, 1]);
+    window.pass(&[MESSAGE, OVERVIEW_NUMBER]);
     pass_fields(unit, STATE_CERTIFICATE, UNIT_CERTIFICATE, window)?;
     pass_fields(unit, VIN, REGISTRATION, window)?;
     pass_number(window, times.now);
@@ -92,7 +94,7 @@ pub fn pass_technical<M: Medium>(unit: &mut M, window: &mut Window) -> Result<()
         (λ x. HasPassed Plan.Technical x window.old window.new)) }
     ensures reads { ReadsIfAny (M.state unit.old) (M.state unit.new) (is_err result) }
 {
-    window.pass(&[SERVICE, 5]);
+    window.pass(&[MESSAGE, TECHNICAL_NUMBER]);
     pass_fields(unit, IDENTIFICATION, SENSOR, window)?;
     window.pass(&[0; 129]);
     Ok(())
@@ -114,7 +116,7 @@ pub fn pass_events<M: Medium>(
         (λ x. AreEventsOf x events → HasPassed (Plan.Events events) x window.old window.new)) }
     ensures reads { ReadsIfAny (M.state unit.old) (M.state unit.new) (is_err result) }
 {
-    window.pass(&[SERVICE, 3]);
+    window.pass(&[MESSAGE, EVENTS_NUMBER]);
     pass_table(unit, &fault_entries(), events.faults, window)?;
     pass_table(unit, &event_entries(), events.events, window)?;
     window.pass(&[0; 4]);
@@ -138,7 +140,7 @@ pub fn pass_day<M: Medium>(unit: &mut M, day: DayOutline, window: &mut Window) -
         (λ x. IsDayOf x day → HasPassed (Plan.Day day) x window.old window.new)) }
     ensures reads { ReadsIfAny (M.state unit.old) (M.state unit.new) (is_err result) }
 {
-    window.pass(&[SERVICE, 2]);
+    window.pass(&[MESSAGE, DAY_NUMBER]);
     pass_number(window, day.date);
     pass_odometer(window, day.odometer);
     pass_insertions(unit, day, window)?;
@@ -160,7 +162,7 @@ pub fn pass_speed<M: Medium>(unit: &mut M, blocks: u32, window: &mut Window) -> 
         (λ x. AreBlocksOf x blocks → HasPassed (Plan.Speed blocks) x window.old window.new)) }
     ensures reads { ReadsIfAny (M.state unit.old) (M.state unit.new) (is_err result) }
 {
-    window.pass(&[SERVICE, 4]);
+    window.pass(&[MESSAGE, SPEED_NUMBER]);
     pass_blocks(unit, blocks, window)?;
     window.pass(&[0; 128]);
     Ok(())

@@ -1,5 +1,6 @@
 //! How many insertions and places lie on each of many dates, counted in one look at their rings.
-ghost use Rattle.unit_model.specs.declared.layout.TheConstants.{DAY_SECONDS, IMAGE_SIZE, INSERTION_SLOTS};
+ghost use Rattle.activity_codec.specs.declared.day.TheConstants.{DAY_SECONDS};
+ghost use Rattle.unit_model.specs.declared.layout.TheConstants.{IMAGE_SIZE, INSERTION_SLOTS};
 ghost use Rattle.std.specs.Prelude.{◌≡◌, ◌==◌, ◌||◌, true, not, ◌≤◌, ◌<◌, ◌+◌, ◌-◌, ◌*◌, ℕ, List, IfOk, OnOk, IfSome};
 ghost use Rattle.std.specs.Prelude.{IfNone, length, is_err, slice_index_or, if◌then◌else◌};
 ghost use Rattle.std.specs.List.{range_with_len};
@@ -15,8 +16,8 @@ use crate::entries::{
     BLOCK, Entries, INSERTION_TIME, PLACE_TIME, WITHDRAWAL_TIME, at_once, date_of,
 };
 use crate::outline::rows::{insertions_on, places_on};
+use activity_codec::DAY_SECONDS;
 use tach_media::{Failed, Medium};
-use unit_model::layout::DAY_SECONDS;
 
 /// How many dates are counted at once: as many as a unit's memory has days.
 pub const DATES: usize = 366;
@@ -26,19 +27,23 @@ pub const DATES: usize = 366;
 pub struct Counts {
     /// The first second of the first date.
     pub first: u32,
+    /// How many insertions touch each date.
     pub insertions: [u16; DATES],
+    /// How many places each date has.
     pub places: [u16; DATES],
 }
 
 /// What is counted by dates.
 #[derive(Clone, Copy, Debug, PartialEq, Eq)]
 pub enum Dated {
+    /// Insertions, each on the date of the insertion and on that of the withdrawal.
     Insertions,
+    /// Places, each on its date.
     Places,
 }
 
 impl Dated {
-    // Those of a date.
+    /// Those of a date.
     fn entries_on(self, date: u32) -> Entries
         ensures is { result ≡ entries_on self date }
         ensures entries { AreEntries result }
@@ -49,7 +54,7 @@ impl Dated {
         }
     }
 
-    // The dates on which an entry that is there is meant: two, which may be one.
+    /// The dates on which an entry that is there is meant: two, which may be one.
     fn dates_of(self, entry: &[u8]) -> (u32, u32)
         requires wide { (entries_on self 0).width ≤ length entry.now }
         requires there { not (number_at entry.now (entries_on self 0).gate 4 == 0) ≡ true }
@@ -92,7 +97,7 @@ pub fn count_at(counts: &[u16; DATES], index: usize) -> u32
     counts[index] as u32
 }
 
-// One more on a date, where it is one of them.
+/// One more on a date, where it is one of them.
 fn add_on(counts: &mut [u16], first: u32, date: u32)
     requires whole { length counts.old ≡ DATES }
     requires few { AreFew (u16.MAX - 1) counts.old }
@@ -106,7 +111,7 @@ fn add_on(counts: &mut [u16], first: u32, date: u32)
     }
 }
 
-// One entry more, on each date on which it is meant.
+/// One entry more, on each date on which it is meant.
 fn add_entry(kind: Dated, entry: &[u8], first: u32, counts: &mut [u16])
     requires whole { length counts.old ≡ DATES }
     requires wide { length entry.now ≡ (entries_on kind 0).width }
@@ -129,7 +134,7 @@ fn add_entry(kind: Dated, entry: &[u8], first: u32, counts: &mut [u16])
     }
 }
 
-// The entries that were read at once.
+/// The entries that were read at once.
 fn add_block(kind: Dated, block: &[u8], count: u32, first: u32, counts: &mut [u16])
     requires whole { length counts.old ≡ DATES }
     requires at_once { count ≤ AT_ONCE }
@@ -149,7 +154,7 @@ fn add_block(kind: Dated, block: &[u8], count: u32, first: u32, counts: &mut [u1
     }
 }
 
-// So many entries from an index on, which are read at once.
+/// So many entries from an index on, which are read at once.
 fn add_some<M: Medium>(
     kind: Dated,
     unit: &mut M,
@@ -178,7 +183,7 @@ fn add_some<M: Medium>(
     Ok(count)
 }
 
-// How many there are on each date.
+/// How many there are on each date.
 fn count_each<M: Medium>(kind: Dated, unit: &mut M, first: u32) -> Result<[u16; DATES], Failed>
     requires unit { (M.state unit.old).size ≡ IMAGE_SIZE }
     ensures counted { IfOk result (λ counts.
@@ -200,6 +205,10 @@ fn count_each<M: Medium>(kind: Dated, unit: &mut M, first: u32) -> Result<[u16; 
 
 /// How many insertions and places there are on each of the dates from a second on, of a unit whose image is known to
 /// decode.
+///
+/// # Errors
+///
+/// `Failed` where the unit failed.
 pub fn count_dates<M: Medium>(unit: &mut M, first: u32) -> Result<Counts, Failed>
     requires unit { (M.state unit.old).size ≡ IMAGE_SIZE }
     requires decodes { IfSome (M.state unit.old).image Decodes }

@@ -1,5 +1,6 @@
 //! What a message is made of, found in the unit's image.
-ghost use Rattle.unit_model.specs.declared.layout.TheConstants.{DAY_SECONDS, DAY_WORD_LIMIT, HIGHEST_ODOMETER};
+ghost use Rattle.activity_codec.specs.declared.day.TheConstants.{DAY_SECONDS};
+ghost use Rattle.unit_model.specs.declared.layout.TheConstants.{DAY_WORD_LIMIT, HIGHEST_ODOMETER};
 ghost use Rattle.unit_model.specs.declared.layout.TheConstants.{IMAGE_SIZE};
 ghost use Rattle.std.specs.Prelude.{◌≡◌, ◌<◌, ◌≤◌, ◌+◌, ◌*◌, ℕ, List, Some, IfOk, IfSome, is_err, filter, length};
 ghost use Rattle.gated_ring.specs.Ring.{ring_list, PointsInside};
@@ -22,6 +23,10 @@ use unit_model::layout::{DAY_WORDS, FIRST_OVER, OVER_COUNT};
 
 /// What the message is made of that answers a request, of a unit whose image is known to decode, as from its journal's
 /// load; `None` exactly where there is no such message: for a day that is not recorded.
+///
+/// # Errors
+///
+/// `Failed` where the unit failed.
 pub fn find_outline<M: Medium>(
     journal: &Journal,
     unit: &mut M,
@@ -38,6 +43,10 @@ pub fn find_outline<M: Medium>(
 }
 
 /// `find_outline` behind another message, whose outline is known: what that tells of other dates is not counted again.
+///
+/// # Errors
+///
+/// `Failed` where the unit failed.
 pub fn find_next_outline<M: Medium>(
     journal: &Journal,
     unit: &mut M,
@@ -63,6 +72,7 @@ pub fn find_next_outline<M: Medium>(
     }
 }
 
+/// The outline of an overview.
 fn overview_outline<M: Medium>(journal: &Journal, unit: &mut M) -> Result<Option<Outline>, Failed>
     requires unit { (M.state unit.old).size ≡ IMAGE_SIZE }
     requires right { IfSome (M.state unit.old).image (AreRight journal.now) }
@@ -78,6 +88,8 @@ fn overview_outline<M: Medium>(journal: &Journal, unit: &mut M) -> Result<Option
     }))
 }
 
+/// The times that an overview tells: the last-kept minute is the unit's time, and the period goes from the oldest day
+/// to it; it is 0 to 0 where there is no day.
 fn overview_times<M: Medium>(journal: &Journal, unit: &mut M) -> Result<Times, Failed>
     requires unit { (M.state unit.old).size ≡ IMAGE_SIZE }
     requires right { IfSome (M.state unit.old).image (AreRight journal.now) }
@@ -103,7 +115,7 @@ fn overview_times<M: Medium>(journal: &Journal, unit: &mut M) -> Result<Times, F
     })
 }
 
-// The outline of the message of a day; `None` exactly where no recorded day begins at this second.
+/// The outline of the message of a day; `None` exactly where no recorded day begins at this second.
 fn dated_outline<M: Medium>(
     journal: &Journal,
     unit: &mut M,
@@ -128,7 +140,7 @@ fn dated_outline<M: Medium>(
     }
 }
 
-// The outline of the message of a day that was found.
+/// The outline of the message of a day that was found.
 fn found_outline<M: Medium>(
     journal: &Journal,
     unit: &mut M,
@@ -163,7 +175,7 @@ struct DateCounts {
     index: usize,
 }
 
-// What is known of a day that was found.
+/// What is known of a day that was found.
 fn day_outline<M: Medium>(
     unit: &mut M,
     known: &Option<Outline>,
@@ -202,7 +214,7 @@ fn day_outline<M: Medium>(
     })
 }
 
-// The counts that an outline tells, where one is known.
+/// The counts that an outline tells, where one is known.
 fn counts_known(known: &Option<Outline>) -> Option<Counts>
     ensures range { IfSome result AreInRange }
     ensures counted { (x : List ℕ) → IfSome known.now (λ o. Outlines o x) → IfSome result (λ c. AreCounted c x) }
@@ -213,7 +225,7 @@ fn counts_known(known: &Option<Outline>) -> Option<Counts>
     }
 }
 
-// Counts among which a date has this index: those that are known, or else those from this date on.
+/// Counts among which a date has this index: those that are known, or else those from this date on.
 fn counts_on<M: Medium>(
     unit: &mut M,
     known: &Option<Outline>,
@@ -236,6 +248,7 @@ fn counts_on<M: Medium>(
     Ok(DateCounts { counts, index: 0 })
 }
 
+/// The outline of the message of events and faults.
 fn events_outline<M: Medium>(unit: &mut M) -> Result<Option<Outline>, Failed>
     requires unit { (M.state unit.old).size ≡ IMAGE_SIZE }
     requires decodes { IfSome (M.state unit.old).image Decodes }
@@ -249,6 +262,7 @@ fn events_outline<M: Medium>(unit: &mut M) -> Result<Option<Outline>, Failed>
     }))
 }
 
+/// How many events, faults and over speedings there are, and what the image tells of the over speedings.
 fn event_outline<M: Medium>(unit: &mut M) -> Result<EventOutline, Failed>
     requires unit { (M.state unit.old).size ≡ IMAGE_SIZE }
     requires decodes { IfSome (M.state unit.old).image Decodes }
@@ -270,7 +284,7 @@ fn event_outline<M: Medium>(unit: &mut M) -> Result<EventOutline, Failed>
     })
 }
 
-// The outline of the message of detailed speed.
+/// The outline of the message of detailed speed.
 fn speed_outline<M: Medium>(unit: &mut M) -> Result<Option<Outline>, Failed>
     requires unit { (M.state unit.old).size ≡ IMAGE_SIZE }
     requires decodes { IfSome (M.state unit.old).image Decodes }
@@ -284,7 +298,7 @@ fn speed_outline<M: Medium>(unit: &mut M) -> Result<Option<Outline>, Failed>
     }))
 }
 
-// How many blocks of detailed speed there are.
+/// How many blocks of detailed speed there are.
 fn block_count<M: Medium>(unit: &mut M) -> Result<u32, Failed>
     requires unit { (M.state unit.old).size ≡ IMAGE_SIZE }
     requires decodes { IfSome (M.state unit.old).image Decodes }

@@ -26,14 +26,16 @@ use unit_model::layout::{
     EVENTS, FAULTS, INSERTION_SLOTS, INSERTIONS, OVERS, PLACE_SLOTS, PLACES, SPEED_SLOTS, SPEEDS,
 };
 
-/// How many places there are for faults, events and over speedings.
+// How many places there are for faults.
 const FAULT_PLACES: u32 = 24;
 
+// How many there are for events.
 const EVENT_PLACES: u32 = 60;
 
+// How many there are for over speedings.
 const OVER_PLACES: u32 = 10;
 
-/// Where a fault, an event and an over speeding have their begin, behind their type and their purpose.
+// Where a fault, an event and an over speeding have their begin, behind their type and their purpose.
 const BEGIN: u32 = 2;
 
 /// The insertions that touch a day.
@@ -81,7 +83,7 @@ pub fn speed_blocks() -> Entries
     }
 }
 
-// All entries of a table, of which each begins with its type and its purpose.
+/// All entries of a table, of which each begins with its type and its purpose.
 fn table(base: u32, width: u32, count: u32) -> Entries
     ensures { result ≡ entries_of base width count }
 {
@@ -130,7 +132,7 @@ pub fn pass_byte(window: &mut Window, number: u32)
     window.pass(&bytes);
 }
 
-// A number of two bytes passes by.
+/// A number of two bytes passes by.
 fn pass_count(window: &mut Window, number: u32)
     requires { number < 2 ^ 16 }
     ensures { window.new ≡ passed window.old (big_bytes 2 number) }
@@ -139,7 +141,7 @@ fn pass_count(window: &mut Window, number: u32)
     window.pass(&bytes);
 }
 
-// How many bytes so many entries have.
+/// How many bytes so many entries have.
 fn bytes_of(count: u32, width: u32) -> u32
     requires few { count ≤ INSERTION_SLOTS }
     requires narrow { width ≤ 129 }
@@ -149,6 +151,10 @@ fn bytes_of(count: u32, width: u32) -> u32
 }
 
 /// The entries of a table pass by, behind their count.
+///
+/// # Errors
+///
+/// `Failed` where the unit failed.
 pub fn pass_table<M: Medium>(
     unit: &mut M,
     entries: &Entries,
@@ -174,7 +180,7 @@ pub fn pass_table<M: Medium>(
     Ok(())
 }
 
-// The index behind the pointer, round the end; 0 where the pointer is no index.
+/// The index behind the pointer, round the end; 0 where the pointer is no index.
 fn turn_at(pointer: u32, count: u32) -> u32
     ensures turn { pointer < count → result ≡ (if pointer + 1 == count then 0 else pointer + 1) }
     ensures below { result ≤ count }
@@ -186,8 +192,8 @@ fn turn_at(pointer: u32, count: u32) -> u32
     }
 }
 
-// The entries of a ring, of which so many are meant, pass by; where none of them can be taken, none is read, and where
-// each is meant, none before the window's begin.
+/// The entries of a ring, of which so many are meant, pass by; where none of them can be taken, none is read, and where
+/// each is meant, none before the window's begin.
 fn pass_ring<M: Medium>(
     unit: &mut M,
     place: u32,
@@ -216,6 +222,10 @@ fn pass_ring<M: Medium>(
 }
 
 /// The insertions of a day pass by, behind their count.
+///
+/// # Errors
+///
+/// `Failed` where the unit failed.
 pub fn pass_insertions<M: Medium>(
     unit: &mut M,
     day: DayOutline,
@@ -236,6 +246,10 @@ pub fn pass_insertions<M: Medium>(
 }
 
 /// The words of a day pass by, behind their count.
+///
+/// # Errors
+///
+/// `Failed` where the unit failed.
 pub fn pass_words<M: Medium>(
     unit: &mut M,
     day: DayOutline,
@@ -253,6 +267,10 @@ pub fn pass_words<M: Medium>(
 }
 
 /// The places of a day pass by, behind their count.
+///
+/// # Errors
+///
+/// `Failed` where the unit failed.
 pub fn pass_places<M: Medium>(
     unit: &mut M,
     day: DayOutline,
@@ -273,6 +291,10 @@ pub fn pass_places<M: Medium>(
 }
 
 /// The blocks of detailed speed pass by, behind their count.
+///
+/// # Errors
+///
+/// `Failed` where the unit failed.
 pub fn pass_blocks<M: Medium>(unit: &mut M, blocks: u32, window: &mut Window) -> Result<(), Failed>
     requires unit { (M.state unit.old).size ≡ IMAGE_SIZE }
     requires few { blocks ≤ speed_ring.count }

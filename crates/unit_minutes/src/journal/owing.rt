@@ -1,7 +1,9 @@
+//! What the unit owes to cards, by the journal.
 ghost use Rattle.std.specs.Prelude.{◌≡◌, ◌↔◌, ◌<◌, ℕ, Option, List, true, IfOk, OnOk, IfSome, is_err};
 ghost use Rattle.std.specs.Prelude.{option_map};
 ghost use Rattle.tach_media.specs.Medium.{Reads, LeavesOnly, HasCause, IsSettled, last_count};
 ghost use Rattle.tacho_types.specs.CardNumber.{card_number_bytes};
+ghost use Rattle.unit_model.specs.declared.layout.TheConstants.{OWED_ROWS};
 ghost use Rattle.unit_model.specs.Image.{IsUnit};
 ghost use Rattle.unit_minutes.specs.Image.{Agrees};
 ghost use Rattle.tach_media.specs.Plan.{PutsAll, PutsBy};
@@ -20,6 +22,10 @@ use unit_owed::{
 
 impl Journal {
     /// The entries that are owed to the card of a number in a session, later than a minute, in order of minutes.
+    ///
+    /// # Errors
+    ///
+    /// `Failed` where the medium failed.
     pub fn owed<M: Medium>(
         &self,
         unit: &mut M,
@@ -40,6 +46,10 @@ impl Journal {
     }
 
     /// The same, and which row is begun for the number, while the row of another one is spared: in one read.
+    ///
+    /// # Errors
+    ///
+    /// `Failed` where the medium failed.
     pub fn ask<M: Medium>(
         &self,
         unit: &mut M,
@@ -55,7 +65,7 @@ impl Journal {
         ensures sane { IfOk result (λ a. IsSane after self.now.kept a.owed.items) }
         ensures row { IfOk result (λ a. IfSome (M.state unit.old).image (IsRowFor a.row (card_number_bytes number.now)
             (option_map (λ s. card_number_bytes s.now) spared.entry))) }
-        ensures low { IfOk result (λ a. a.row < 8) }
+        ensures low { IfOk result (λ a. a.row < OWED_ROWS) }
         ensures reads { Reads (M.state unit.old) (M.state unit.new) (is_err result) }
     {
         let mut bytes = [0; 18];
@@ -70,6 +80,10 @@ impl Journal {
     }
 
     /// Whether the card of a number has a row.
+    ///
+    /// # Errors
+    ///
+    /// `Failed` where the medium failed.
     pub fn has_row<M: Medium>(&self, unit: &mut M, number: &FullCardNumber) -> Result<bool, Failed>
         requires unit { IsUnit (M.state unit.old) }
         ensures row { IfOk result (λ found. IfSome (M.state unit.old).image (λ x. (found ≡ true) ↔ HasRow
@@ -83,6 +97,10 @@ impl Journal {
 
     /// Puts an entry among those that are owed to the card of a number, which has a row (`has_row` tells). It has it
     /// still.
+    ///
+    /// # Errors
+    ///
+    /// `Failed` where the medium failed; then the cell may hold the entry, what it held before, or nothing.
     pub fn put_owed<M: Medium>(
         &mut self,
         unit: &mut M,
@@ -101,6 +119,7 @@ impl Journal {
             (IsPutting (card_number_bytes number.now) entry.now) }
         ensures cause { HasCause (M.state unit.old) (M.state unit.new) (is_err result) }
     {
+        // Read for the proof alone: so the notes have their ranges.
         let _days = &self.days;
         let mut bytes = [0; 18];
         write_card_number(number, &mut bytes);
@@ -112,6 +131,10 @@ impl Journal {
     ///
     /// At each moment of the call every other row is as it was, and the row that is begun is as it was, or has no
     /// session, or is begun. After it the number has a row.
+    ///
+    /// # Errors
+    ///
+    /// `Failed` where the medium failed; then the row may be begun or not, or have no session.
     pub fn begin_owed<M: Medium>(
         &mut self,
         unit: &mut M,
@@ -138,6 +161,7 @@ impl Journal {
         ensures settled { OnOk result ((M.state unit.new).clock < last_count → IsSettled (M.state unit.new)) }
         ensures cause { HasCause (M.state unit.old) (M.state unit.new) (is_err result) }
     {
+        // Read for the proof alone: so the notes have their ranges.
         let _days = &self.days;
         let mut bytes = [0; 18];
         write_card_number(number, &mut bytes);
@@ -151,6 +175,10 @@ impl Journal {
     }
 
     /// Puts an entry into the row at an index, which is that of some number. Nothing is read.
+    ///
+    /// # Errors
+    ///
+    /// `Failed` where the medium failed; then the cell may hold the entry, what it held before, or nothing.
     pub fn put_owed_at<M: Medium>(
         &mut self,
         unit: &mut M,
@@ -159,7 +187,7 @@ impl Journal {
     ) -> Result<(), Failed>
         requires unit { IsUnit (M.state unit.old) }
         requires agrees { IfSome (M.state unit.old).image (Agrees self.old) }
-        requires low { row < 8 }
+        requires low { row < OWED_ROWS }
         requires own { (number : List ℕ) × IfSome (M.state unit.old).image (IsRowAt row number) }
         ensures same { self.new ≡ self.old }
         ensures agrees { OnOk result (IfSome (M.state unit.new).image (Agrees self.old)) }
@@ -173,12 +201,17 @@ impl Journal {
         ensures settled { OnOk result ((M.state unit.new).clock < last_count → IsSettled (M.state unit.new)) }
         ensures cause { HasCause (M.state unit.old) (M.state unit.new) (is_err result) }
     {
+        // Read for the proof alone: so the notes have their ranges.
         let _days = &self.days;
         put_owed_at(unit, row, entry)
     }
 
     /// Begins the row at an index for the card of a number, with a session time and without an entry: it is the one
     /// that `ask` told, and it is the number's after it. Nothing is read.
+    ///
+    /// # Errors
+    ///
+    /// `Failed` where the medium failed; then the row may be begun or not, or have no session.
     pub fn begin_owed_at<M: Medium>(
         &mut self,
         unit: &mut M,
@@ -188,7 +221,7 @@ impl Journal {
     ) -> Result<(), Failed>
         requires unit { IsUnit (M.state unit.old) }
         requires agrees { IfSome (M.state unit.old).image (Agrees self.old) }
-        requires low { row < 8 }
+        requires low { row < OWED_ROWS }
         requires own { (spared : Option (List ℕ))
             × IfSome (M.state unit.old).image (IsRowFor row (card_number_bytes number.now) spared) }
         requires session { 0 < session }
@@ -208,6 +241,7 @@ impl Journal {
         ensures settled { OnOk result ((M.state unit.new).clock < last_count → IsSettled (M.state unit.new)) }
         ensures cause { HasCause (M.state unit.old) (M.state unit.new) (is_err result) }
     {
+        // Read for the proof alone: so the notes have their ranges.
         let _days = &self.days;
         let mut bytes = [0; 18];
         write_card_number(number, &mut bytes);

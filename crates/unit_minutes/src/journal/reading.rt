@@ -1,3 +1,4 @@
+//! The recorded days of a unit and their words, by the journal.
 ghost use Rattle.std.specs.Prelude.{◌≡◌, ◌≢◌, ℕ, List, length, ◌+◌, ◌-◌, ◌*◌, ◌/◌, ◌<◌, ◌≤◌, min, IfOk, IfSome, Some};
 ghost use Rattle.std.specs.Prelude.{is_err};
 ghost use Rattle.unit_model.specs.declared.layout.TheConstants.{DAY_SLOTS, DAY_WORD_LIMIT, DAY_WORDS, HIGHEST_ODOMETER};
@@ -7,11 +8,11 @@ ghost use Rattle.gated_ring.specs.Ring.{number_at};
 ghost use Rattle.unit_model.specs.Image.{recorded, slot_place, slot_date, slot_odometer, slot_count};
 
 use crate::journal::Journal;
+use activity_codec::{DAY_MINUTES, DAY_SECONDS};
 use tach_media::{Failed, Medium, read_number};
 use tacho_types::{Odometer, TimeReal};
 use unit_model::layout::{
-    DAY_COUNT, DAY_MINUTES, DAY_ODOMETER, DAY_SECONDS, DAY_SLOTS, DAY_WORD_LIMIT, DAY_WORDS,
-    HIGHEST_ODOMETER, slot_place,
+    DAY_COUNT, DAY_ODOMETER, DAY_SLOTS, DAY_WORD_LIMIT, DAY_WORDS, HIGHEST_ODOMETER, slot_place,
 };
 
 /// A recorded day of the unit, as its slot has it (profile).
@@ -27,7 +28,7 @@ pub struct UnitDay {
     pub words: u16,
 }
 
-// The day in a slot, whose date is known and whose words all count.
+/// The day in a slot, whose date is known and whose words all count.
 fn whole_day<M: Medium>(unit: &mut M, index: u32, date: u32) -> Result<UnitDay, Failed>
     requires unit { (M.state unit.old).size ≡ IMAGE_SIZE }
     requires index { index < DAY_SLOTS }
@@ -64,7 +65,7 @@ impl Journal {
         self.notes.day_count as u16
     }
 
-    // The index of the slot of a recorded day, counted from the oldest.
+    /// The index of the slot of a recorded day, counted from the oldest.
     fn index_at(&self, nth: u32) -> u32
         requires { nth < self.now.day_count }
         ensures index { result ≡ nth_index self.now nth }
@@ -74,7 +75,7 @@ impl Journal {
         (self.notes.index + (DAY_SLOTS + 1) - self.notes.day_count + nth) % DAY_SLOTS
     }
 
-    // The date of the last-kept minute's day.
+    /// The date of the last-kept minute's day.
     fn last_date(&self) -> u32
         ensures date { result ≡ 86400 * (self.now.kept / 1440) }
         ensures shape { IsNotes self.now }
@@ -82,7 +83,7 @@ impl Journal {
         DAY_SECONDS * (self.notes.kept / DAY_MINUTES)
     }
 
-    // The last-kept minute's day.
+    /// The last-kept minute's day.
     fn last_day<M: Medium>(&self, unit: &mut M) -> Result<UnitDay, Failed>
         requires unit { (M.state unit.old).size ≡ IMAGE_SIZE }
         requires some { 0 < self.now.day_count }
@@ -105,7 +106,7 @@ impl Journal {
         })
     }
 
-    // An earlier day, whose date is known.
+    /// An earlier day, whose date is known.
     fn older_day<M: Medium>(&self, unit: &mut M, nth: u32, date: u32) -> Result<UnitDay, Failed>
         requires unit { (M.state unit.old).size ≡ IMAGE_SIZE }
         requires nth { nth + 1 < self.now.day_count }
@@ -145,7 +146,7 @@ impl Journal {
         self.older_day(unit, nth, date)
     }
 
-    // The earlier day of a date, looked for from the oldest on.
+    /// The earlier day of a date, looked for from the oldest on.
     fn scan_older<M: Medium>(&self, unit: &mut M, date: u32) -> Result<Option<UnitDay>, Failed>
         requires unit { (M.state unit.old).size ≡ IMAGE_SIZE }
         requires some { 0 < self.now.day_count }
@@ -168,7 +169,7 @@ impl Journal {
         Ok(None)
     }
 
-    // How many days lie before an earlier one, if each day since is recorded, as mostly is.
+    /// How many days lie before an earlier one, if each day since is recorded, as mostly is.
     fn likely_nth(&self, date: u32) -> u32
         ensures few { result ≤ DAY_SLOTS }
         ensures shape { IsNotes self.now }
@@ -177,7 +178,7 @@ impl Journal {
         self.notes.day_count.saturating_sub(since + 1)
     }
 
-    // The earlier day of a date where it stands if each day since is recorded.
+    /// The earlier day of a date where it stands if each day since is recorded.
     fn likely_day<M: Medium>(&self, unit: &mut M, date: u32) -> Result<Option<UnitDay>, Failed>
         requires unit { (M.state unit.old).size ≡ IMAGE_SIZE }
         ensures found { IfOk result (λ found.
@@ -201,7 +202,7 @@ impl Journal {
         Ok(Some(day))
     }
 
-    // The earlier day of a date.
+    /// The earlier day of a date.
     fn find_older<M: Medium>(&self, unit: &mut M, date: u32) -> Result<Option<UnitDay>, Failed>
         requires unit { (M.state unit.old).size ≡ IMAGE_SIZE }
         requires some { 0 < self.now.day_count }
@@ -267,7 +268,7 @@ impl Journal {
             (λ x. AreRight self.now x → IsWordOf x head.now index word)) }
         ensures reads { Reads (M.state unit.old) (M.state unit.new) (is_err result) }
     {
-        // so the notes have their ranges
+        // Read for the proof alone: so the notes have their ranges.
         let _days = &self.days;
         let mut bytes = [0; 2];
         unit.read_at(head.place + DAY_WORDS.place + 2 * index as u32, &mut bytes)?;

@@ -12,12 +12,13 @@ const SIZE: usize = LARGEST_IMAGE as usize;
 // 84 places.
 const SMALLEST: [u8; 10] = [0x01, 0x00, 0x00, 0x06, 0x0C, 0x15, 0xA8, 0x00, 0x54, 0x54];
 
-/// Where the file of days begins on such a card, the file of vehicles behind it, and that of the current use, which
-/// begins with the session time.
+/// Where the file of days begins on such a card.
 pub const DAYS: usize = 43 + 6 * 6 * 24 + 2 * 12 * 24;
 
+/// Where that of vehicles begins behind it.
 pub const VEHICLES: usize = DAYS + 5548;
 
+/// And that of the current use, which begins with the session time.
 pub const CURRENT_USE: usize = VEHICLES + 2 + 31 * 84 + 1 + 10 * 84;
 
 // The same of a card of 12 events and 24 faults of each type, a string of 13776 bytes, 200 vehicles and 112 places.

@@ -9,6 +9,7 @@ ghost use Rattle.card_session.specs.declared.words.TheConstants.{LATEST_MINUTE};
 ghost use Rattle.unit_model.specs.Image.{IsUnit};
 ghost use Rattle.unit_minutes.specs.Image.{Agrees};
 ghost use Rattle.unit_owed.specs.Rows.{IsRowAt};
+ghost use Rattle.device_calls.specs.Calls.{HasRowAt, UnitIsReady, UnitStandsOwing};
 
 use crate::card::keeping::Stopped;
 use activity_codec::{Activity, Entry, Pick, Slot};
@@ -16,15 +17,15 @@ use card_commands::read_sizes;
 use card_layout::{Application, LARGEST_IMAGE};
 use card_session::{CardSession, Kept};
 use device_calls::{
-    BothSaid, CardInsertion, NewRow, NotEntered, Said, begin, enter, keep_on_card, keep_on_unit,
-    leave, mend,
+    CardInsertion, NewRow, NotEntered, OwedEntry, begin, commit, enter, keep_on_card, leave, mend,
+    owe,
 };
 use hand_model::Held;
 use std::alloc::Global;
 use std::rt::HostRuntime;
 use std::test::Fail;
-use tach_media::{Chip, Medium, MemMedium};
-use tacho_types::{FullCardNumber, Nation, Odometer, Registration, TimeReal};
+use tach_media::{Chip, Failed, Medium, MemMedium};
+use tacho_types::{FullCardNumber, Odometer, Registration, TimeReal};
 use trace_model::Card;
 use unit_minutes::{Journal, KeptMinute, State};
 use worked_media::{
@@ -41,13 +42,6 @@ const ROOM: Room = Room {
 };
 
 const REGISTRATION: Registration = Registration(*b"\x0D\x01DEMO         ");
-
-/// The number of a card that is not there.
-const OTHER: FullCardNumber = FullCardNumber {
-    kind: 1,
-    state: Nation(13),
-    number: *b"DEMO111111111111",
-};
 
 impl From<NotEntered> for Stopped {
     ghost from_gives = { λ _ _. Unit {0} };
@@ -104,6 +98,15 @@ impl Step {
             slot: Slot::Driver,
             crew: false,
             act: self.act,
+        }
+    }
+
+    /// What the minute says on the card: its entry, where the card is present.
+    fn said(&self) -> Option<Entry> {
+        if self.present {
+            Some(self.entry())
+        } else {
+            None
         }
     }
 
@@ -208,7 +211,34 @@ fn put_in<M: Medium, C: Chip, D: Chip>(
     })
 }
 
-// Keeps a minute on the unit, and on the card if it is there.
+// The card is owed what a minute says on it.
+fn owe_to<M: Medium, C: Chip, D: Chip>(
+    drive: &mut Drive,
+    unit: &mut M,
+    card: &C,
+    other: &D,
+    said: Option<Entry>,
+) -> Result<(), Failed>
+    requires ready { UnitIsReady drive.old.journal (M.state unit.old) }
+    requires row { HasRowAt drive.old.row (card_number_bytes drive.old.number) (M.state unit.old) }
+    ensures same { (drive.new.number ≡ drive.old.number) × (drive.new.row ≡ drive.old.row)
+        × (drive.new.app ≡ drive.old.app) × (drive.new.session ≡ drive.old.session) }
+    ensures stands { UnitStandsOwing result drive.old.journal drive.new.journal (M.state unit.old) (M.state unit.new) }
+{
+    match said {
+        None => Ok(()),
+        Some(entry) => {
+            let owed = OwedEntry {
+                number: drive.number,
+                row: drive.row,
+                entry,
+            };
+            owe(unit, &mut drive.journal, card, other, Card::A, owed)
+        }
+    }
+}
+
+// Keeps a minute on the unit, behind the entry that it owes to the card, and on the card if it is there.
 fn keep<M: Medium, C: Chip, D: Chip>(
     drive: &mut Drive,
     unit: &mut M,
@@ -236,29 +266,8 @@ fn keep<M: Medium, C: Chip, D: Chip>(
     if minute.minute <= drive.journal.last_kept() {
         return Err(Stopped);
     }
-    let entry = step.entry();
-    let said = if step.present { Some(entry) } else { None };
-    keep_on_unit(
-        unit,
-        &mut drive.journal,
-        card,
-        other,
-        BothSaid {
-            one: Said {
-                card: Card::A,
-                number: drive.number,
-                row: drive.row,
-                entry: said,
-            },
-            two: Said {
-                card: Card::B,
-                number: OTHER,
-                row: 0,
-                entry: None,
-            },
-        },
-        &minute,
-    )?;
+    owe_to(drive, unit, card, other, step.said())?;
+    commit(unit, &mut drive.journal, card, other, &minute)?;
     if step.keeps {
         bring(drive, unit, card, step)?;
     }

@@ -34,11 +34,11 @@ loop-turn-preserved g c =
     let long : length (take n block) ≡ n = length-take-le n block within in (
       (
         lines_on (g.S.Source.left c.read_after.new.self) c.take.new.self (g.U.Medium.state c.take.new.unit) (g.K.Sink.held c.take.new.sink) (take n block) (take c.min-taken.result block) n
-            inv.0.0 (part_all c.min-taken.result n left block c.min-taken.ensures (omega arith)) long (omega arith) (omega arith) c.in-Ok.ensures.bytes.0 e.heard e.few e.knows e.unit,
+            inv.0.0 (part_all c.min-taken.result n left block c.min-taken.ensures (omega arith)) long (omega arith) (omega arith) c.in-Ok.ensures.bytes.0 e.heard e.few e.knows e.goes.unit,
         timely_on Answered (g.S.Peer.asked c.read_after.new.self) (g.K.Sink.held c.loop-turn.sink) (take n block) (lines_answered inv.0.0) inv.0.1 c.in-Ok.ensures.asked,
       ),
       omega (arith, inv.1, c.in-Ok.ensures.cause.later),
-      omega (arith, inv.2, e.counts),
+      omega (arith, inv.2, e.goes.counts),
     )
 
 pub returns-in_err-take-clause-served : goal.returns-in_err-take-clause-served
@@ -49,7 +49,7 @@ returns-in_err-take-clause-served g c =
 
 pub returns-in_err-take-clause-unit : goal.returns-in_err-take-clause-unit
 returns-in_err-take-clause-unit g c =
-    lines_reads c.from_residual.result _ c.from_residual.ensures.1 (any_then c.loop-turn.invariant.0.0.reads c.in_err-take.ensures.unit)
+    lines_reads c.from_residual.result _ c.from_residual.ensures.1 (any_then c.loop-turn.invariant.0.0.reads c.in_err-take.ensures.goes.unit)
 
 pub returns-then-count-eq0-clause-served : goal.returns-then-count-eq0-clause-served
 returns-then-count-eq0-clause-served g c =
@@ -60,7 +60,7 @@ returns-then-count-eq0-clause-served g c =
     c.loop-turn.invariant.0.0 c.in-Ok.ensures.bytes.0 (ap (λ (n : ℕ). take n c.read_after.new.buf) c.if-count-eq0.true) at_end e.heard e.stops
 
 pub returns-then-count-eq0-clause-unit : goal.returns-then-count-eq0-clause-unit
-returns-then-count-eq0-clause-unit g c = any_then c.loop-turn.invariant.0.0.reads c.end_line.ensures.unit
+returns-then-count-eq0-clause-unit g c = any_then c.loop-turn.invariant.0.0.reads c.end_line.ensures.goes.unit
 
 pub returns-then-left-count-clause-served : goal.returns-then-left-count-clause-served
 returns-then-left-count-clause-served g c =
@@ -72,7 +72,7 @@ returns-then-left-count-clause-served g c =
     c.loop-turn.invariant.0.0 c.in-Ok.ensures.bytes.0 (part_is c.min-taken.result n c.loop-turn.left block c.min-taken.ensures) (omega (arith, long)) c.in_ok-take.ensures.heard
 
 pub returns-then-left-count-clause-unit : goal.returns-then-left-count-clause-unit
-returns-then-left-count-clause-unit g c = any_then c.loop-turn.invariant.0.0.reads c.in_ok-take.ensures.unit
+returns-then-left-count-clause-unit g c = any_then c.loop-turn.invariant.0.0.reads c.in_ok-take.ensures.goes.unit
 
 pub returns-in_default-clause-served : goal.returns-in_default-clause-served
 returns-in_default-clause-served g c = lines_broken (Unit {0}) (g.S.Source.left c.read_after.new.self) c.loop-turn.invariant.0.0 c.in_default.ensures.bytes

@@ -42,11 +42,11 @@ loop-turn-preserved g c =
     let long : length bytes ≡ n = length-take-le n c.read_after.new.buf within in (
       (
         serving_on (g.S.Source.left c.read_after.new.self) c.answer_within.new.self (g.U.Medium.state c.answer_within.new.unit) (g.K.Sink.held c.answer_within.new.sink) bytes n
-            inv.0.0 long (omega arith) e.few c.in-Ok.ensures.bytes.0 e.kept e.answered e.knows e.unit,
+            inv.0.0 long (omega arith) e.few c.in-Ok.ensures.bytes.0 e.kept e.answered e.knows e.goes.unit,
         timely_on Answered (g.S.Peer.asked c.read_after.new.self) (g.K.Sink.held c.loop-turn.sink) bytes (serving_answered inv.0.0) inv.0.1 c.in-Ok.ensures.asked,
       ),
       omega (arith, inv.1, c.in-Ok.ensures.cause.later),
-      omega (arith, inv.2, e.counts),
+      omega (arith, inv.2, e.goes.counts),
     )
 
 pub overflow_sub-left : goal.overflow_sub-left
@@ -64,15 +64,15 @@ returns-in_err-answer_within-clause-served g c =
 pub returns-in_err-answer_within-clause-cause : goal.returns-in_err-answer_within-clause-cause
 returns-in_err-answer_within-clause-cause g c =
     caused_passed c.from_residual.result _ ⊥ (Rose (g.S.Source.faults c.args.source.now) (g.S.Source.faults c.read_after.new.self)) (g.K.Sink.faults c.args.sink.now) (g.K.Sink.faults c.loop-turn.sink)
-    (g.K.Sink.faults c.answer_within.new.sink) _ _ c.from_residual.ensures.1 (λ none. absurd none) c.loop-turn.invariant.2 (read_same c.loop-turn.invariant.0.0.reads) c.in_err-answer_within.ensures.cause
+    (g.K.Sink.faults c.answer_within.new.sink) _ _ c.from_residual.ensures.1 (λ none. absurd none) c.loop-turn.invariant.2 (read_same c.loop-turn.invariant.0.0.reads) c.in_err-answer_within.ensures.goes.cause
 
 pub returns-in_err-answer_within-clause-counts : goal.returns-in_err-answer_within-clause-counts
 returns-in_err-answer_within-clause-counts g c =
-    (omega (arith, c.loop-turn.invariant.1, c.in-Ok.ensures.cause.later), omega (arith, c.loop-turn.invariant.2, c.in_err-answer_within.ensures.counts))
+    (omega (arith, c.loop-turn.invariant.1, c.in-Ok.ensures.cause.later), omega (arith, c.loop-turn.invariant.2, c.in_err-answer_within.ensures.goes.counts))
 
 pub returns-in_err-answer_within-clause-unit : goal.returns-in_err-answer_within-clause-unit
 returns-in_err-answer_within-clause-unit g c =
-    passed_reads c.from_residual.result _ c.from_residual.ensures.1 (any_then c.loop-turn.invariant.0.0.reads c.in_err-answer_within.ensures.unit)
+    passed_reads c.from_residual.result _ c.from_residual.ensures.1 (any_then c.loop-turn.invariant.0.0.reads c.in_err-answer_within.ensures.goes.unit)
 
 pub returns-in_default-clause-served : goal.returns-in_default-clause-served
 returns-in_default-clause-served g c = serving_broken (Unit {0}) (g.S.Source.left c.read_after.new.self) c.loop-turn.invariant.0.0 c.in_default.ensures.bytes

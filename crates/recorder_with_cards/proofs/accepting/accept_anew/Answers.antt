@@ -66,24 +66,20 @@ returns-in_default-clause-accepted g c = record {
 }
 
 pub returns-in_default-clause-promises : goal.returns-in_default-clause-promises
-returns-in_default-clause-promises g c = record {
+returns-in_default-clause-promises g c = λ room. record {
   recorded =
-      λ room.
       let none : card_in (seat_in c.args.run.now.keeper.cabin.slots.seats c.args.anew.slot) ≡ None = search rules in
       let d : Devices = devices (g.M.Medium.state c.args.unit.now) (g.C.Chip.state c.args.card_a.now) (g.D.Chip.state c.args.card_b.now) in
       subst (λ (q : Option Card). JudgesAnew q c.args.anew.slot c.args.anew.at false c.args.run.now c.args.run.now c.args.outcome.now c.args.outcome.now d d) (sym none) refl;
   evented =
-      λ room.
       let none : card_in (seat_in c.args.run.now.keeper.cabin.slots.seats c.args.anew.slot) ≡ None = search rules in
       let d : Devices = devices (g.M.Medium.state c.args.unit.now) (g.C.Chip.state c.args.card_a.now) (g.D.Chip.state c.args.card_b.now) in
       subst (λ (q : Option Card). EventsAnew q c.args.anew.slot c.args.anew.at c.args.anew.speed false c.args.run.now c.args.run.now c.args.outcome.now c.args.outcome.now d d) (sym none) tt;
   ringed =
-      λ room.
       let none : card_in (seat_in c.args.run.now.keeper.cabin.slots.seats c.args.anew.slot) ≡ None = search rules in
       let d : Devices = devices (g.M.Medium.state c.args.unit.now) (g.C.Chip.state c.args.card_a.now) (g.D.Chip.state c.args.card_b.now) in
       subst (λ (q : Option Card). RingsJudgedAnew q c.args.anew.slot c.args.anew.at false c.args.run.now c.args.run.now c.args.outcome.now c.args.outcome.now d d) (sym none) tt;
   cards =
-      λ room.
       let none : card_in (seat_in c.args.run.now.keeper.cabin.slots.seats c.args.anew.slot) ≡ None = search rules in
       let d : Devices = devices (g.M.Medium.state c.args.unit.now) (g.C.Chip.state c.args.card_a.now) (g.D.Chip.state c.args.card_b.now) in
       subst (λ (q : Option Card). CardsAnew q c.args.anew.slot c.args.anew.at c.args.anew.speed false c.args.run.now c.args.outcome.now c.args.outcome.now d d) (sym none) tt;
@@ -128,23 +124,19 @@ returns-clause-accepted g c = record {
 }
 
 pub returns-clause-promises : goal.returns-clause-promises
-returns-clause-promises g c = record {
+returns-clause-promises g c = λ room. record {
   recorded =
-      λ room.
       subst (λ (q : Option Card). JudgesAnew q c.args.anew.slot c.args.anew.at (is_err c.accept_in.result) c.args.run.now c.accept_in.new.run c.args.outcome.now c.accept_in.new.outcome (before g c) (behind g c)) (sym (sits g c))
-      (c.accept_in.ensures.promises.recorded (room-here g c room));
+      (c.accept_in.ensures.promises (room-here g c room)).recorded;
   evented =
-      λ room.
       subst (λ (q : Option Card). EventsAnew q c.args.anew.slot c.args.anew.at c.args.anew.speed (is_err c.accept_in.result) c.args.run.now c.accept_in.new.run c.args.outcome.now c.accept_in.new.outcome (before g c) (behind g c)) (sym (sits g c))
-      (c.accept_in.ensures.promises.evented (room-here g c room));
+      (c.accept_in.ensures.promises (room-here g c room)).evented;
   ringed =
-      λ room.
       subst (λ (q : Option Card). RingsJudgedAnew q c.args.anew.slot c.args.anew.at (is_err c.accept_in.result) c.args.run.now c.accept_in.new.run c.args.outcome.now c.accept_in.new.outcome (before g c) (behind g c)) (sym (sits g c))
-      (c.accept_in.ensures.promises.ringed (room-here g c room));
+      (c.accept_in.ensures.promises (room-here g c room)).ringed;
   cards =
-      λ room.
       subst (λ (q : Option Card). CardsAnew q c.args.anew.slot c.args.anew.at c.args.anew.speed (is_err c.accept_in.result) c.args.run.now c.args.outcome.now c.accept_in.new.outcome (before g c) (behind g c)) (sym (sits g c))
-      (c.accept_in.ensures.promises.cards (room-here g c room));
+      (c.accept_in.ensures.promises (room-here g c room)).cards;
 }
 
 pub returns-clause-leaves : goal.returns-clause-leaves

@@ -254,9 +254,9 @@ returns-clause-accepted g c = record {
 }
 
 pub returns-clause-promises : goal.returns-clause-promises
-returns-clause-promises g c = record {
+returns-clause-promises g c = λ room. record {
   recorded =
-      λ room odometer o done s n waits fewer at next time.
+      λ odometer o done s n waits fewer at next time.
       let run = c.args.run.now in
       let e = c.args.entering in
       let h = c.requires.acting.going in
@@ -305,7 +305,7 @@ returns-clause-promises g c = record {
       (λ mark among. subst (λ (p : Outcome). Contains p.marks.items mark) (sym w.1.left.outcome) (marks-behind (ending_of w.0) e c.args.outcome.now mark among)) (grow-self (truths_within o next.goes.within.b.run.log done s)))
       next.goes.stay));
   evented =
-      λ room o done s n waits fewer at speed next turn events time.
+      λ o done s n waits fewer at speed next turn events time.
       let run = c.args.run.now in
       let e = c.args.entering in
       let may = may-judge g c room o done s n waits fewer at next in
@@ -313,7 +313,7 @@ returns-clause-promises g c = record {
       (is_err c.accept-answer.result) c.accept-answer.new.keeper run.noted c.accept-answer.new.noted c.accept-answer.new.outcome (unit1 g c) (card1 g c) (way g c) (gone g c) (sound g c time) next.goes.stay events
       (judged-notes e (is_err c.accept-answer.result) (way g c) run.keeper run.noted (unit0 g c) (unit1 g c) (card0 g c) (card1 g c) (beside g c) (g.met.M.Medium.coherent c.args.unit.now) (g.met.M.Medium.coherent c.accept-answer.new.unit) c.requires.acting.held.is_unit c.accept-answer.ensures.behind.entered.cause.works c.accept-answer.ensures.entered.1.notes);
   ringed =
-      λ room o done s n waits fewer at next spans odometer counted time.
+      λ o done s n waits fewer at next spans odometer counted time.
       let run = c.args.run.now in
       let e = c.args.entering in
       let may = may-judge g c room o done s n waits fewer at next in
@@ -325,7 +325,7 @@ returns-clause-promises g c = record {
       (sits-works e (measured (way g c) e run.keeper) c.accept-answer.new.keeper run.noted (ending_of (way g c)) (g.C.Chip.card c.accept-answer.new.card) (card1 g c) c.accept-answer.ensures.entered.1.left.keeper c.accept-answer.ensures.behind.entered.card) in
       record { rings = v.rings; others = v.others; here = v.here; cut = v.cut; same = v.same; left = v.left; places = v.places; opens = v.opens; odometer = ap (λ (q : Keeper). q.odometer) c.accept-answer.ensures.entered.1.left.keeper; counted = v.counted };
   cards =
-      λ room o done s n waits fewer at speed next vehicle time.
+      λ o done s n waits fewer at speed next vehicle time.
       let run = c.args.run.now in
       let e = c.args.entering in
       let may = may-judge g c room o done s n waits fewer at next in

@@ -30,30 +30,26 @@ returns-in-A-clause-accepted g c = record {
 }
 
 pub returns-in-A-clause-promises : goal.returns-in-A-clause-promises
-returns-in-A-clause-promises g c = record {
+returns-in-A-clause-promises g c = λ room. record {
   recorded =
-      λ room.
       let d : Devices = devices (g.M.Medium.state c.args.unit.now) (g.C.Chip.state c.args.card_a.now) (g.D.Chip.state c.args.card_b.now) in
       let e : Devices = devices (g.M.Medium.state c.accept_here.new.unit) (g.C.Chip.state c.accept_here.new.card) (g.D.Chip.state c.args.card_b.now) in
-      subst (λ (card : Card). JudgesSo c.args.put.slot card c.args.put.at (is_err c.accept_here.result) c.args.run.now c.accept_here.new.run c.args.outcome.now c.accept_here.new.outcome d e) (sym c.in-A.is) (c.accept_here.ensures.promises.recorded room c.odometer_now-odometer.ensures.value);
+      subst (λ (card : Card). JudgesSo c.args.put.slot card c.args.put.at (is_err c.accept_here.result) c.args.run.now c.accept_here.new.run c.args.outcome.now c.accept_here.new.outcome d e) (sym c.in-A.is) ((c.accept_here.ensures.promises room).recorded c.odometer_now-odometer.ensures.value);
   evented =
-      λ room.
       let d : Devices = devices (g.M.Medium.state c.args.unit.now) (g.C.Chip.state c.args.card_a.now) (g.D.Chip.state c.args.card_b.now) in
       let e : Devices = devices (g.M.Medium.state c.accept_here.new.unit) (g.C.Chip.state c.accept_here.new.card) (g.D.Chip.state c.args.card_b.now) in
-      subst (λ (card : Card). EventsJudged c.args.put.slot card c.args.put.at c.args.put.speed (is_err c.accept_here.result) c.args.run.now c.accept_here.new.run c.args.outcome.now c.accept_here.new.outcome d e) (sym c.in-A.is) (c.accept_here.ensures.promises.evented room);
+      subst (λ (card : Card). EventsJudged c.args.put.slot card c.args.put.at c.args.put.speed (is_err c.accept_here.result) c.args.run.now c.accept_here.new.run c.args.outcome.now c.accept_here.new.outcome d e) (sym c.in-A.is) (c.accept_here.ensures.promises room).evented;
   ringed =
-      λ room.
       let d : Devices = devices (g.M.Medium.state c.args.unit.now) (g.C.Chip.state c.args.card_a.now) (g.D.Chip.state c.args.card_b.now) in
       let e : Devices = devices (g.M.Medium.state c.accept_here.new.unit) (g.C.Chip.state c.accept_here.new.card) (g.D.Chip.state c.args.card_b.now) in
       subst (λ (card : Card). RingsJudged c.args.put.slot card c.args.put.at (is_err c.accept_here.result) c.args.run.now c.accept_here.new.run c.args.outcome.now c.accept_here.new.outcome d e) (sym c.in-A.is)
       (λ o done s n waits fewer at next spans now counted time.
       let same = c.odometer_now-odometer.ensures.value next.goes.within.sp next.goes.within.minutes in
-      c.accept_here.ensures.promises.ringed room o done s n waits fewer at next spans (record { at = same ∙ now.at; reads = subst (λ (k : ℕ). IsReading spans s.number k) (sym same) now.reads }) counted time);
+      (c.accept_here.ensures.promises room).ringed o done s n waits fewer at next spans (record { at = same ∙ now.at; reads = subst (λ (k : ℕ). IsReading spans s.number k) (sym same) now.reads }) counted time);
   cards =
-      λ room.
       let d : Devices = devices (g.M.Medium.state c.args.unit.now) (g.C.Chip.state c.args.card_a.now) (g.D.Chip.state c.args.card_b.now) in
       let e : Devices = devices (g.M.Medium.state c.accept_here.new.unit) (g.C.Chip.state c.accept_here.new.card) (g.D.Chip.state c.args.card_b.now) in
-      subst (λ (card : Card). CardsJudged c.args.put.slot card c.args.put.at c.args.put.speed (is_err c.accept_here.result) c.args.run.now c.args.outcome.now c.accept_here.new.outcome d e) (sym c.in-A.is) (c.accept_here.ensures.promises.cards room);
+      subst (λ (card : Card). CardsJudged c.args.put.slot card c.args.put.at c.args.put.speed (is_err c.accept_here.result) c.args.run.now c.args.outcome.now c.accept_here.new.outcome d e) (sym c.in-A.is) (c.accept_here.ensures.promises room).cards;
 }
 
 pub returns-in-A-clause-leaves : goal.returns-in-A-clause-leaves
@@ -81,30 +77,26 @@ returns-in-B-clause-accepted g c = record {
 }
 
 pub returns-in-B-clause-promises : goal.returns-in-B-clause-promises
-returns-in-B-clause-promises g c = record {
+returns-in-B-clause-promises g c = λ room. record {
   recorded =
-      λ room.
       let d : Devices = devices (g.M.Medium.state c.args.unit.now) (g.C.Chip.state c.args.card_a.now) (g.D.Chip.state c.args.card_b.now) in
       let e : Devices = devices (g.M.Medium.state c.accept_here-in-B.new.unit) (g.C.Chip.state c.args.card_a.now) (g.D.Chip.state c.accept_here-in-B.new.card) in
-      subst (λ (card : Card). JudgesSo c.args.put.slot card c.args.put.at (is_err c.accept_here-in-B.result) c.args.run.now c.accept_here-in-B.new.run c.args.outcome.now c.accept_here-in-B.new.outcome d e) (sym c.in-B.is) (c.accept_here-in-B.ensures.promises.recorded room c.odometer_now-odometer.ensures.value);
+      subst (λ (card : Card). JudgesSo c.args.put.slot card c.args.put.at (is_err c.accept_here-in-B.result) c.args.run.now c.accept_here-in-B.new.run c.args.outcome.now c.accept_here-in-B.new.outcome d e) (sym c.in-B.is) ((c.accept_here-in-B.ensures.promises room).recorded c.odometer_now-odometer.ensures.value);
   evented =
-      λ room.
       let d : Devices = devices (g.M.Medium.state c.args.unit.now) (g.C.Chip.state c.args.card_a.now) (g.D.Chip.state c.args.card_b.now) in
       let e : Devices = devices (g.M.Medium.state c.accept_here-in-B.new.unit) (g.C.Chip.state c.args.card_a.now) (g.D.Chip.state c.accept_here-in-B.new.card) in
-      subst (λ (card : Card). EventsJudged c.args.put.slot card c.args.put.at c.args.put.speed (is_err c.accept_here-in-B.result) c.args.run.now c.accept_here-in-B.new.run c.args.outcome.now c.accept_here-in-B.new.outcome d e) (sym c.in-B.is) (c.accept_here-in-B.ensures.promises.evented room);
+      subst (λ (card : Card). EventsJudged c.args.put.slot card c.args.put.at c.args.put.speed (is_err c.accept_here-in-B.result) c.args.run.now c.accept_here-in-B.new.run c.args.outcome.now c.accept_here-in-B.new.outcome d e) (sym c.in-B.is) (c.accept_here-in-B.ensures.promises room).evented;
   ringed =
-      λ room.
       let d : Devices = devices (g.M.Medium.state c.args.unit.now) (g.C.Chip.state c.args.card_a.now) (g.D.Chip.state c.args.card_b.now) in
       let e : Devices = devices (g.M.Medium.state c.accept_here-in-B.new.unit) (g.C.Chip.state c.args.card_a.now) (g.D.Chip.state c.accept_here-in-B.new.card) in
       subst (λ (card : Card). RingsJudged c.args.put.slot card c.args.put.at (is_err c.accept_here-in-B.result) c.args.run.now c.accept_here-in-B.new.run c.args.outcome.now c.accept_here-in-B.new.outcome d e) (sym c.in-B.is)
       (λ o done s n waits fewer at next spans now counted time.
       let same = c.odometer_now-odometer.ensures.value next.goes.within.sp next.goes.within.minutes in
-      c.accept_here-in-B.ensures.promises.ringed room o done s n waits fewer at next spans (record { at = same ∙ now.at; reads = subst (λ (k : ℕ). IsReading spans s.number k) (sym same) now.reads }) counted time);
+      (c.accept_here-in-B.ensures.promises room).ringed o done s n waits fewer at next spans (record { at = same ∙ now.at; reads = subst (λ (k : ℕ). IsReading spans s.number k) (sym same) now.reads }) counted time);
   cards =
-      λ room.
       let d : Devices = devices (g.M.Medium.state c.args.unit.now) (g.C.Chip.state c.args.card_a.now) (g.D.Chip.state c.args.card_b.now) in
       let e : Devices = devices (g.M.Medium.state c.accept_here-in-B.new.unit) (g.C.Chip.state c.args.card_a.now) (g.D.Chip.state c.accept_here-in-B.new.card) in
-      subst (λ (card : Card). CardsJudged c.args.put.slot card c.args.put.at c.args.put.speed (is_err c.accept_here-in-B.result) c.args.run.now c.args.outcome.now c.accept_here-in-B.new.outcome d e) (sym c.in-B.is) (c.accept_here-in-B.ensures.promises.cards room);
+      subst (λ (card : Card). CardsJudged c.args.put.slot card c.args.put.at c.args.put.speed (is_err c.accept_here-in-B.result) c.args.run.now c.args.outcome.now c.accept_here-in-B.new.outcome d e) (sym c.in-B.is) (c.accept_here-in-B.ensures.promises room).cards;
 }
 
 pub returns-in-B-clause-leaves : goal.returns-in-B-clause-leaves

@@ -1,8 +1,12 @@
-use Rattle.std.proofs.Common.{◌≡◌, ◌∙◌, Bool, true, false, length, refl, ap, sym, subst, arith}
+use Rattle.std.proofs.lemmas.Grind.{common_steps}
+use Rattle.std.proofs.Common.{rules, ◌≡◌, ◌∙◌, ◌+◌, Bool, true, false, length, refl, ap, sym, subst, arith}
 use Rattle.log_model.specs.declared.lines.Refused.{Refused}
 use Rattle.run_outcome.specs.Lines.{Listed}
 use Rattle.run_acts.specs.Power.{is_lit}
-use Rattle.recorder_with_cards.specs.Acting.{IsActed, refusal_lines, refused_by}
+use Rattle.recorder_with_cards.specs.Acting.{IsActed, put_count, refusal_lines, refused_by}
+use Rattle.run_acts.specs.Room.{cuts_within}
+use Rattle.run_acts.proofs.Standing.{lit-is}
+use Rattle.recorder_with_cards.proofs.Rooms.{room-less}
 use Rattle.run_minutes.specs.run_promise.Between.{devices}
 use Rattle.recorder_with_cards.proofs.RingsHeld.{ringed-over}
 use Rattle.recorder_with_cards.proofs.Allowed.{lit-refused}
@@ -32,27 +36,47 @@ returns-clause-still g c = λ none.
 -- ---- what is recorded, with its events and rings
 
 pub returns-then-not-has_power-clause-promises : goal.returns-then-not-has_power-clause-promises
-returns-then-not-has_power-clause-promises g c = record {
-  ringed = λ power. absurd (let no : false ≡ true = sym c.if-not-has_power.true ∙ power in cc);
-  cards = λ power. absurd (let no : false ≡ true = sym c.if-not-has_power.true ∙ power in cc);
-}
+returns-then-not-has_power-clause-promises g c = λ power. absurd (let no : false ≡ true = sym c.if-not-has_power.true ∙ power in cc)
 
 pub returns-then-not-is_lit-clause-promises : goal.returns-then-not-is_lit-clause-promises
-returns-then-not-is_lit-clause-promises g c = record {
+returns-then-not-is_lit-clause-promises g c = λ power. record {
   ringed =
-      λ power o done s now front rest are begun in_ time.
+      λ o done s now front rest are begun in_ time.
       let dark : is_lit c.args.run.now.power ≡ false = sym c.is_lit.ensures ∙ c.if-not-is_lit.true in
       ringed-over o done s c.args.run.now c.args.outcome.now (devices (g.M.Medium.state c.args.unit.now) (g.C.Chip.state c.args.card_a.now) (g.D.Chip.state c.args.card_b.now)) (length front) c.args.deed.begun dark in_;
   cards =
-      λ power o done s now front rest are begun in_ time.
+      λ o done s now front rest are begun in_ time.
       let dark : is_lit c.args.run.now.power ≡ false = sym c.is_lit.ensures ∙ c.if-not-is_lit.true in
       carded-over o done s c.args.run.now c.args.outcome.now (devices (g.M.Medium.state c.args.unit.now) (g.C.Chip.state c.args.card_a.now) (g.D.Chip.state c.args.card_b.now)) (length front) c.args.deed.begun dark in_;
 }
 
 pub returns-clause-promises : goal.returns-clause-promises
-returns-clause-promises g c = record {
-  ringed = λ power. c.act_lit.ensures.promises.ringed;
-  cards = λ power. c.act_lit.ensures.promises.cards;
+returns-clause-promises g c = λ power. c.act_lit.ensures.promises
+
+-- ---- how the run stands
+
+pub returns-then-not-has_power-clause-behind : goal.returns-then-not-has_power-clause-behind
+returns-then-not-has_power-clause-behind g c = record {
+  going = c.requires.may.going;
+  room = first_of (search rules, grind (arith, common_steps));
+}
+
+pub returns-then-not-is_lit-clause-behind : goal.returns-then-not-is_lit-clause-behind
+returns-then-not-is_lit-clause-behind g c = record {
+  going = c.requires.may.going;
+  room =
+      λ left offs insertions actions h.
+      room-less cuts_within c.args.run.now c.args.outcome.now (1 + left) (1 + left) offs offs (put_count c.args.deed.action + insertions) insertions (1 + actions) actions (omega arith) (omega arith) (omega arith) (omega arith) h;
+}
+
+pub returns-clause-behind : goal.returns-clause-behind
+returns-clause-behind g c = c.act_lit.ensures.behind
+
+pub act_lit-requires-clause-may : goal.act_lit-requires-clause-may
+act_lit-requires-clause-may g c = record {
+  lit = lit-is c.args.run.now.power (sym c.is_lit.ensures ∙ c.if-not-is_lit.false);
+  going = c.requires.may.going;
+  room = c.requires.may.room;
 }
 
 -- ---- where no tear of a failed call is told no card has broken down
@@ -66,7 +90,8 @@ returns-then-not-has_power-clause-acted g c = record {
   refused = c.refuse.ensures ∙ ap (λ (b : Bool). with_lines (refusal_lines (refused_by b (is_lit c.args.run.now.power) c.args.run.now c.args.deed.speed c.args.deed.action) c.args.run.now.next c.args.deed.begun) c.args.outcome.now.refused) (sym c.if-not-has_power.true);
   none = λ no. refl;
   lost = λ power dark. absurd (let no : false ≡ true = sym c.if-not-has_power.true ∙ power in cc);
-  selected = λ lit. absurd (let no : true ≡ false = sym lit ∙ c.requires.dark c.if-not-has_power.true in cc);
+  dark = λ dark. dark;
+  selected = λ lit. absurd (let no : true ≡ false = sym lit ∙ c.requires.may.dark c.if-not-has_power.true in cc);
   next = refl;
   unfound = refl;
 }
@@ -94,6 +119,7 @@ returns-then-not-is_lit-clause-acted g c = record {
       (subst (λ (l : Bool). c.args.outcome.now.refused ≡ with_lines (refusal_lines (refused_by true l c.args.run.now c.args.deed.speed c.args.deed.action) c.args.run.now.next c.args.deed.begun) c.args.outcome.now.refused) (sym lit) (ap (λ (xs : List Refused). record c.args.outcome.now.refused { items = xs }) (sym (append-nil c.args.outcome.now.refused.items))));
   none = λ no. refl;
   lost = λ power dark. (refl, refl);
+  dark = λ dark. dark;
   selected =
       λ lit.
       let dark : is_lit c.args.run.now.power ≡ false = sym c.is_lit.ensures ∙ c.if-not-is_lit.true in
@@ -130,6 +156,10 @@ returns-clause-acted g c = record {
       no (lit-refused c.args.deed.has_power (is_lit run.power) run c.args.deed.speed c.args.deed.action c.if-not-has_power.false lit is));
   lost =
       λ power dark.
+      let lit : is_lit c.args.run.now.power ≡ true = sym c.is_lit.ensures ∙ c.if-not-is_lit.false in
+      absurd (let no : true ≡ false = sym lit ∙ dark in cc);
+  dark =
+      λ dark.
       let lit : is_lit c.args.run.now.power ≡ true = sym c.is_lit.ensures ∙ c.if-not-is_lit.false in
       absurd (let no : true ≡ false = sym lit ∙ dark in cc);
   selected = λ lit. c.act_lit.ensures.acted.selected;

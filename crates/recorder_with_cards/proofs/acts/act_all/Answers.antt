@@ -62,20 +62,24 @@ module _ (g : Over) (c : After-act_item g) where
       (actions-then I so (action_of item) (i - from) c.number_of.result c.args.due.speed c.args.run.now c.loop-i.run c.act_item.new.run c.args.outcome.now c.loop-i.outcome c.act_item.new.outcome dev0 dev1 dev2
       (omega (arith, number, now)) c.loop-i.invariant.next (later-time c.act_item.ensures.goes.later) (were before (omega (arith, few, low))) is))
 
-pub act_item-requires-clause-room : goal.act_item-requires-clause-room
-act_item-requires-clause-room g c =
-    let run = c.args.run.now in
-    let o = c.args.outcome.now in
-    let items = c.args.due.items.now in
-    let less : c.loop-i.i < c.args.due.to = c.loop-i-test.true in
-    let all = insertions_in c.args.due.from c.args.due.to items in
-    let here = first-in items c.loop-i.i c.args.due.to c.get.result.now c.get.ensures less in
-    room-less cuts_within c.loop-i.run c.loop-i.outcome 1 1 0 0 (insertions_in c.loop-i.i c.args.due.to items + 0) (insertion_count c.get.result.now) (c.args.due.to - c.loop-i.i + 0) 1 (omega arith) (omega arith) (omega (arith, here)) (omega (arith, less))
-    (c.loop-i.invariant.room 0 0 0 0 (room-less cuts_within run o 1 1 0 0 all (all + 0) (c.args.due.to - c.args.due.from) (c.args.due.to - c.args.due.from + 0) (omega arith) (omega arith) (omega arith) (omega arith) c.requires.room))
+pub act_item-requires-clause-may : goal.act_item-requires-clause-may
+act_item-requires-clause-may g c = record {
+  going = c.loop-i.invariant.going;
+  dark = c.loop-i.invariant.dark;
+  room =
+      let run = c.args.run.now in
+      let o = c.args.outcome.now in
+      let items = c.args.due.items.now in
+      let less : c.loop-i.i < c.args.due.to = c.loop-i-test.true in
+      let all = insertions_in c.args.due.from c.args.due.to items in
+      let here = first-in items c.loop-i.i c.args.due.to c.get.result.now c.get.ensures less in
+      room-less cuts_within c.loop-i.run c.loop-i.outcome 1 1 0 0 (insertions_in c.loop-i.i c.args.due.to items + 0) (insertion_count c.get.result.now) (c.args.due.to - c.loop-i.i + 0) 1 (omega arith) (omega arith) (omega (arith, here)) (omega (arith, less))
+      (c.loop-i.invariant.room 0 0 0 0 (room-less cuts_within run o 1 1 0 0 all (all + 0) (c.args.due.to - c.args.due.from) (c.args.due.to - c.args.due.from + 0) (omega arith) (omega arith) (omega arith) (omega arith) c.requires.may.room));
+}
 
 pub loop-i-init : goal.loop-i-init
 loop-i-init g c = record {
-  going = c.requires.going;
+  going = c.requires.may.going;
   acted = subst (λ (xs : List Item). AreActed c.args.due.has_power c.args.due.speed 0 xs c.args.run.now c.args.run.now c.args.outcome.now c.args.outcome.now) (sym (between-none c.args.due.from c.args.due.items.now)) (refl, refl);
   ringed = λ power many few.
       let d : Devices = devices (g.M.Medium.state c.args.unit.now) (g.C.Chip.state c.args.card_a.now) (g.D.Chip.state c.args.card_b.now) in
@@ -90,7 +94,7 @@ loop-i-init g c = record {
   calm = calm-same (devices (g.M.Medium.state c.args.unit.now) (g.C.Chip.state c.args.card_a.now) (g.D.Chip.state c.args.card_b.now));
   broke = broke-none c.args.outcome.now.breaks.items {old = (g.M.Medium.state c.args.unit.now)} {new = (g.M.Medium.state c.args.unit.now)} (omega arith);
   most = writes-none 0 (c.args.due.from - c.args.due.from) (devices (g.M.Medium.state c.args.unit.now) (g.C.Chip.state c.args.card_a.now) (g.D.Chip.state c.args.card_b.now));
-  dark = c.requires.dark;
+  dark = c.requires.may.dark;
   next = refl;
   unfound = refl;
   room = λ left offs insertions actions h. h;
@@ -105,13 +109,13 @@ loop-i-preserved g c =
     let less : c.loop-i.i < c.args.due.to = c.loop-i-test.true in
     let here = first-in items c.loop-i.i c.args.due.to c.get.result.now c.get.ensures less in
     record {
-      going = e.going;
+      going = e.behind.going;
       acted = subst (λ (xs : List Item). AreActed c.args.due.has_power c.args.due.speed 0 xs c.args.run.now c.act_item.new.run c.args.outcome.now c.act_item.new.outcome) (sym (between-more items c.args.due.from c.loop-i.i c.get.result.now c.loop-i.auto.i c.get.ensures))
           (acted-more c.args.due.has_power c.args.due.speed 0 (c.loop-i.i - c.args.due.from + 1) (between c.args.due.from c.loop-i.i items) c.get.result.now c.args.run.now c.loop-i.run c.act_item.new.run c.args.outcome.now c.loop-i.outcome c.act_item.new.outcome v.acted
           (let long = length-take (c.loop-i.i - c.args.due.from) (drop c.args.due.from items) in let rest = length-drop c.args.due.from items in let last = c.requires.among.last in let low = c.loop-i.auto.i in omega (arith, long, rest, last, low, less))
           (subst (λ (n : ℕ). IsItemActed c.get.result.now c.args.due.has_power (is_lit c.loop-i.run.power) n c.args.due.speed c.loop-i.run c.act_item.new.run c.loop-i.outcome c.act_item.new.outcome) c.number_of.ensures e.acted.done));
-      ringed = λ power many few. one-more g (goal.at.loop-i-preserved g c).After-act_item InSecondRinged many few (v.ringed power) (e.promises.ringed power);
-      cards = λ power many few. one-more g (goal.at.loop-i-preserved g c).After-act_item InSecondCarded many few (v.cards power) (e.promises.cards power);
+      ringed = λ power many few. one-more g (goal.at.loop-i-preserved g c).After-act_item InSecondRinged many few (v.ringed power) (e.promises power).ringed;
+      cards = λ power many few. one-more g (goal.at.loop-i-preserved g c).After-act_item InSecondCarded many few (v.cards power) (e.promises power).cards;
       still = λ dark.
           let was = v.still dark in
           let now = e.still was.0 in
@@ -123,28 +127,32 @@ loop-i-preserved g c =
           let low = c.loop-i.auto.i in
           writes-more 0 0 (c.loop-i.i - c.args.due.from + 1) (c.loop-i.i + 1 - c.args.due.from) (devices (g.M.Medium.state c.args.unit.now) (g.C.Chip.state c.args.card_a.now) (g.D.Chip.state c.args.card_b.now)) (devices (g.M.Medium.state c.act_item.new.unit) (g.C.Chip.state c.act_item.new.card_a) (g.D.Chip.state c.act_item.new.card_b)) (omega arith) (omega (arith, low))
           (writes-then 0 0 (c.loop-i.i - c.args.due.from) 1 (devices (g.M.Medium.state c.args.unit.now) (g.C.Chip.state c.args.card_a.now) (g.D.Chip.state c.args.card_b.now)) (devices (g.M.Medium.state c.loop-i.unit) (g.C.Chip.state c.loop-i.card_a) (g.D.Chip.state c.loop-i.card_b)) (devices (g.M.Medium.state c.act_item.new.unit) (g.C.Chip.state c.act_item.new.card_a) (g.D.Chip.state c.act_item.new.card_b)) v.most e.goes.most);
-      dark = e.dark;
+      dark = e.acted.dark;
       next = e.acted.next ∙ v.next;
       unfound = e.acted.unfound ∙ v.unfound;
       room = λ left offs insertions actions h.
           let rest = insertions_in (c.loop-i.i + 1) c.args.due.to items in
           let one = insertion_count c.get.result.now in
           let now = insertions_in c.loop-i.i c.args.due.to items in
-          e.room left offs (rest + insertions) (c.args.due.to - (c.loop-i.i + 1) + actions)
+          e.behind.room left offs (rest + insertions) (c.args.due.to - (c.loop-i.i + 1) + actions)
           (room-less cuts_within c.loop-i.run c.loop-i.outcome (1 + left) (1 + left) offs offs (now + insertions) (one + (rest + insertions)) (c.args.due.to - c.loop-i.i + actions) (1 + (c.args.due.to - (c.loop-i.i + 1) + actions))
           (omega arith) (omega arith) (omega (arith, here)) (omega (arith, less)) (v.room left offs insertions actions h));
       breaks = let more = e.goes.more in let was = v.breaks in omega (arith, more, was);
     }
 
-pub returns-clause-room : goal.returns-clause-room
-returns-clause-room g c = λ left offs insertions actions h.
-    let items = c.args.due.items.now in
-    let end : c.args.due.to ≤ c.loop-i.i = c.loop-i-test.false in
-    let some : c.loop-i.i ≤ c.args.due.to = c.loop-i.auto.i-end c.requires.among.first in
-    let same : c.loop-i.i ≡ c.args.due.to = omega (arith, end, some) in
-    let none = ap (λ (i : ℕ). insertions_in i c.args.due.to items) same ∙ none-in items c.args.due.to in
-    room-less cuts_within c.loop-i.run c.loop-i.outcome (1 + left) (1 + left) offs offs (insertions_in c.loop-i.i c.args.due.to items + insertions) insertions (c.args.due.to - c.loop-i.i + actions) actions
-    (omega arith) (omega arith) (omega arith) (omega arith) (c.loop-i.invariant.room left offs insertions actions h)
+pub returns-clause-behind : goal.returns-clause-behind
+returns-clause-behind g c = record {
+  going = c.loop-i.invariant.going;
+  room =
+      λ left offs insertions actions h.
+      let items = c.args.due.items.now in
+      let end : c.args.due.to ≤ c.loop-i.i = c.loop-i-test.false in
+      let some : c.loop-i.i ≤ c.args.due.to = c.loop-i.auto.i-end c.requires.among.first in
+      let same : c.loop-i.i ≡ c.args.due.to = omega (arith, end, some) in
+      let none = ap (λ (i : ℕ). insertions_in i c.args.due.to items) same ∙ none-in items c.args.due.to in
+      room-less cuts_within c.loop-i.run c.loop-i.outcome (1 + left) (1 + left) offs offs (insertions_in c.loop-i.i c.args.due.to items + insertions) insertions (c.args.due.to - c.loop-i.i + actions) actions
+      (omega arith) (omega arith) (omega arith) (omega arith) (c.loop-i.invariant.room left offs insertions actions h);
+}
 
 -- ---- where no tear of a failed call is told no card has broken down
 
@@ -159,19 +167,19 @@ returns-clause-acted g c = record {
 }
 
 pub returns-clause-promises : goal.returns-clause-promises
-returns-clause-promises g c = record {
+returns-clause-promises g c = λ power many few. record {
   ringed =
       let end : c.args.due.to ≤ c.loop-i.i = c.loop-i-test.false in
       let some : c.loop-i.i ≤ c.args.due.to = c.loop-i.auto.i-end c.requires.among.first in
       subst (λ (n : ℕ). c.args.due.has_power ≡ true → length (actions_in (between c.args.due.from n c.args.due.items.now)) ≡ n - c.args.due.from → n - c.args.due.from ≤ largest_number
       → RingsActions (actions_in (between c.args.due.from n c.args.due.items.now)) (n - c.args.due.from) c.args.due.speed c.args.run.now c.loop-i.run c.args.outcome.now c.loop-i.outcome (devices (g.M.Medium.state c.args.unit.now) (g.C.Chip.state c.args.card_a.now) (g.D.Chip.state c.args.card_b.now)) (devices (g.M.Medium.state c.loop-i.unit) (g.C.Chip.state c.loop-i.card_a) (g.D.Chip.state c.loop-i.card_b)))
-      (let same : c.loop-i.i ≡ c.args.due.to = omega (arith, end, some) in same) c.loop-i.invariant.ringed;
+      (let same : c.loop-i.i ≡ c.args.due.to = omega (arith, end, some) in same) c.loop-i.invariant.ringed power many few;
   cards =
       let end : c.args.due.to ≤ c.loop-i.i = c.loop-i-test.false in
       let some : c.loop-i.i ≤ c.args.due.to = c.loop-i.auto.i-end c.requires.among.first in
       subst (λ (n : ℕ). c.args.due.has_power ≡ true → length (actions_in (between c.args.due.from n c.args.due.items.now)) ≡ n - c.args.due.from → n - c.args.due.from ≤ largest_number
       → CardsActions (actions_in (between c.args.due.from n c.args.due.items.now)) (n - c.args.due.from) c.args.due.speed c.args.run.now c.loop-i.run c.args.outcome.now c.loop-i.outcome (devices (g.M.Medium.state c.args.unit.now) (g.C.Chip.state c.args.card_a.now) (g.D.Chip.state c.args.card_b.now)) (devices (g.M.Medium.state c.loop-i.unit) (g.C.Chip.state c.loop-i.card_a) (g.D.Chip.state c.loop-i.card_b)))
-      (let same : c.loop-i.i ≡ c.args.due.to = omega (arith, end, some) in same) c.loop-i.invariant.cards;
+      (let same : c.loop-i.i ≡ c.args.due.to = omega (arith, end, some) in same) c.loop-i.invariant.cards power many few;
 }
 
 pub returns-clause-goes : goal.returns-clause-goes

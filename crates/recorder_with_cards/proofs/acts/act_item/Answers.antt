@@ -1,6 +1,6 @@
 use Rattle.std.proofs.Common.{◌≡◌, ◌∙◌, ℕ, ◌+◌, List, true, false, ap, sym, subst, arith, refl}
 use Rattle.run_outcome.specs.Room.{insertion_count}
-use Rattle.run_acts.specs.Room.{HasRoomWithin}
+use Rattle.run_acts.specs.Room.{HasRoomWithin, cuts_within}
 use Rattle.trace_model.specs.declared.Action.{Action}
 use Rattle.trace_model.specs.declared.Item.{Item}
 use Rattle.run_acts.specs.Power.{is_lit}
@@ -11,6 +11,7 @@ use Rattle.recorder_with_cards.specs.Recorded.{action_of, RingsActions}
 use Rattle.run_acts.specs.RunRinged.{InSecondRinged}
 use Rattle.recorder_with_cards.proofs.ActsRecorded.{no-action}
 use Rattle.recorder_with_cards.proofs.Allowed.{count-is}
+use Rattle.recorder_with_cards.proofs.Rooms.{room-less}
 use Rattle.recorder_with_cards.specs.Carded.{InSecondCarded, CardsActions}
 use Rattle.run_outcome.proofs.Broken.{broke-none}
 use Rattle.run_minutes.proofs.Calm.{calm-same}
@@ -18,48 +19,69 @@ use Rattle.run_minutes.proofs.Later.{later-same}
 use Rattle.recorder_with_cards.proofs.Writes.{writes-none}
 use Rattle.recorder_with_cards.proofs.acts.act_item.Goals as goal
 
-pub returns-in-Act-clause-room : goal.returns-in-Act-clause-room
-returns-in-Act-clause-room g c = λ left offs insertions actions h.
-    c.act.ensures.room left offs insertions actions
-    (subst (λ (k : ℕ). HasRoomWithin c.args.run.now c.args.outcome.now (1 + left) offs (k + insertions) (1 + actions)) (ap insertion_count c.in-Act.is ∙ count-is c.in-Act.action) h)
+pub act-requires-clause-may : goal.act-requires-clause-may
+act-requires-clause-may g c = record {
+  going = c.requires.may.going;
+  dark = c.requires.may.dark;
+  room = subst (λ (k : ℕ). HasRoomWithin c.args.run.now c.args.outcome.now 1 0 k 1) (ap insertion_count c.in-Act.is ∙ count-is c.in-Act.action) c.requires.may.room;
+}
+
+pub returns-in-Act-clause-behind : goal.returns-in-Act-clause-behind
+returns-in-Act-clause-behind g c = record {
+  going = c.act.ensures.behind.going;
+  room =
+      λ left offs insertions actions h.
+      c.act.ensures.behind.room left offs insertions actions
+      (subst (λ (k : ℕ). HasRoomWithin c.args.run.now c.args.outcome.now (1 + left) offs (k + insertions) (1 + actions)) (ap insertion_count c.in-Act.is ∙ count-is c.in-Act.action) h);
+}
+
+pub returns-in-Run-clause-behind : goal.returns-in-Run-clause-behind
+returns-in-Run-clause-behind g c = record {
+  going = c.requires.may.going;
+  room =
+      λ left offs insertions actions h.
+      room-less cuts_within c.args.run.now c.args.outcome.now (1 + left) (1 + left) offs offs (insertion_count c.args.due.item + insertions) insertions (1 + actions) actions (omega arith) (omega arith) (omega arith) (omega arith) h;
+}
+
+pub returns-in-Off-clause-behind : goal.returns-in-Off-clause-behind
+returns-in-Off-clause-behind g c = record {
+  going = c.requires.may.going;
+  room =
+      λ left offs insertions actions h.
+      room-less cuts_within c.args.run.now c.args.outcome.now (1 + left) (1 + left) offs offs (insertion_count c.args.due.item + insertions) insertions (1 + actions) actions (omega arith) (omega arith) (omega arith) (omega arith) h;
+}
 
 pub returns-in-Act-clause-still : goal.returns-in-Act-clause-still
 returns-in-Act-clause-still g c = λ dark.
     let same = c.act.ensures.still (λ power lit. absurd (let no : false ≡ true = sym dark ∙ lit in cc)) in
-    (c.act.ensures.dark dark, same.0, same.1, same.2)
+    (c.act.ensures.acted.dark dark, same.0, same.1, same.2)
 
 -- ---- what is recorded, with its events and rings
 
 pub returns-in-Act-clause-promises : goal.returns-in-Act-clause-promises
-returns-in-Act-clause-promises g c = record {
+returns-in-Act-clause-promises g c = λ power. record {
   ringed =
-      λ power.
-      subst (λ (xs : List Action). RingsActions xs c.args.due.begun c.args.due.speed c.args.run.now c.act.new.run c.args.outcome.now c.act.new.outcome (devices (g.M.Medium.state c.args.unit.now) (g.C.Chip.state c.args.card_a.now) (g.D.Chip.state c.args.card_b.now)) (devices (g.M.Medium.state c.act.new.unit) (g.C.Chip.state c.act.new.card_a) (g.D.Chip.state c.act.new.card_b))) (sym (ap action_of c.in-Act.is)) (c.act.ensures.promises.ringed power);
+      subst (λ (xs : List Action). RingsActions xs c.args.due.begun c.args.due.speed c.args.run.now c.act.new.run c.args.outcome.now c.act.new.outcome (devices (g.M.Medium.state c.args.unit.now) (g.C.Chip.state c.args.card_a.now) (g.D.Chip.state c.args.card_b.now)) (devices (g.M.Medium.state c.act.new.unit) (g.C.Chip.state c.act.new.card_a) (g.D.Chip.state c.act.new.card_b))) (sym (ap action_of c.in-Act.is)) (c.act.ensures.promises power).ringed;
   cards =
-      λ power.
-      subst (λ (xs : List Action). CardsActions xs c.args.due.begun c.args.due.speed c.args.run.now c.act.new.run c.args.outcome.now c.act.new.outcome (devices (g.M.Medium.state c.args.unit.now) (g.C.Chip.state c.args.card_a.now) (g.D.Chip.state c.args.card_b.now)) (devices (g.M.Medium.state c.act.new.unit) (g.C.Chip.state c.act.new.card_a) (g.D.Chip.state c.act.new.card_b))) (sym (ap action_of c.in-Act.is)) (c.act.ensures.promises.cards power);
+      subst (λ (xs : List Action). CardsActions xs c.args.due.begun c.args.due.speed c.args.run.now c.act.new.run c.args.outcome.now c.act.new.outcome (devices (g.M.Medium.state c.args.unit.now) (g.C.Chip.state c.args.card_a.now) (g.D.Chip.state c.args.card_b.now)) (devices (g.M.Medium.state c.act.new.unit) (g.C.Chip.state c.act.new.card_a) (g.D.Chip.state c.act.new.card_b))) (sym (ap action_of c.in-Act.is)) (c.act.ensures.promises power).cards;
 }
 
 pub returns-in-Run-clause-promises : goal.returns-in-Run-clause-promises
-returns-in-Run-clause-promises g c = record {
+returns-in-Run-clause-promises g c = λ power. record {
   ringed =
-      λ power.
       let d : Devices = devices (g.M.Medium.state c.args.unit.now) (g.C.Chip.state c.args.card_a.now) (g.D.Chip.state c.args.card_b.now) in
       subst (λ (xs : List Action). RingsActions xs c.args.due.begun c.args.due.speed c.args.run.now c.args.run.now c.args.outcome.now c.args.outcome.now d d) (sym (ap action_of c.in-Run.is)) (no-action InSecondRinged c.args.due.begun c.args.due.speed c.args.run.now c.args.outcome.now d);
   cards =
-      λ power.
       let d : Devices = devices (g.M.Medium.state c.args.unit.now) (g.C.Chip.state c.args.card_a.now) (g.D.Chip.state c.args.card_b.now) in
       subst (λ (xs : List Action). CardsActions xs c.args.due.begun c.args.due.speed c.args.run.now c.args.run.now c.args.outcome.now c.args.outcome.now d d) (sym (ap action_of c.in-Run.is)) (no-action InSecondCarded c.args.due.begun c.args.due.speed c.args.run.now c.args.outcome.now d);
 }
 
 pub returns-in-Off-clause-promises : goal.returns-in-Off-clause-promises
-returns-in-Off-clause-promises g c = record {
+returns-in-Off-clause-promises g c = λ power. record {
   ringed =
-      λ power.
       let d : Devices = devices (g.M.Medium.state c.args.unit.now) (g.C.Chip.state c.args.card_a.now) (g.D.Chip.state c.args.card_b.now) in
       subst (λ (xs : List Action). RingsActions xs c.args.due.begun c.args.due.speed c.args.run.now c.args.run.now c.args.outcome.now c.args.outcome.now d d) (sym (ap action_of c.in-Off.is)) (no-action InSecondRinged c.args.due.begun c.args.due.speed c.args.run.now c.args.outcome.now d);
   cards =
-      λ power.
       let d : Devices = devices (g.M.Medium.state c.args.unit.now) (g.C.Chip.state c.args.card_a.now) (g.D.Chip.state c.args.card_b.now) in
       subst (λ (xs : List Action). CardsActions xs c.args.due.begun c.args.due.speed c.args.run.now c.args.run.now c.args.outcome.now c.args.outcome.now d d) (sym (ap action_of c.in-Off.is)) (no-action InSecondCarded c.args.due.begun c.args.due.speed c.args.run.now c.args.outcome.now d);
 }
@@ -71,6 +93,7 @@ returns-in-Act-clause-acted g c = record {
   done =
       let run = c.args.run.now in
       subst (λ (i : Item). IsItemActed i c.args.due.has_power (is_lit run.power) c.args.due.begun c.args.due.speed run c.act.new.run c.args.outcome.now c.act.new.outcome) (sym c.in-Act.is) c.act.ensures.acted.done;
+  dark = λ no. c.act.ensures.acted.dark (c.requires.may.dark no);
   next = c.act.ensures.acted.next;
   unfound = c.act.ensures.acted.unfound;
 }
@@ -87,6 +110,7 @@ returns-in-Act-clause-goes g c = record {
 pub returns-in-Run-clause-acted : goal.returns-in-Run-clause-acted
 returns-in-Run-clause-acted g c = record {
   done = subst (λ (i : Item). IsItemActed i c.args.due.has_power (is_lit c.args.run.now.power) c.args.due.begun c.args.due.speed c.args.run.now c.args.run.now c.args.outcome.now c.args.outcome.now) (sym c.in-Run.is) (refl, refl);
+  dark = λ no. c.requires.may.dark no;
   next = refl;
   unfound = refl;
 }
@@ -103,6 +127,7 @@ returns-in-Run-clause-goes g c = record {
 pub returns-in-Off-clause-acted : goal.returns-in-Off-clause-acted
 returns-in-Off-clause-acted g c = record {
   done = subst (λ (i : Item). IsItemActed i c.args.due.has_power (is_lit c.args.run.now.power) c.args.due.begun c.args.due.speed c.args.run.now c.args.run.now c.args.outcome.now c.args.outcome.now) (sym c.in-Off.is) (refl, refl);
+  dark = λ no. c.requires.may.dark no;
   next = refl;
   unfound = refl;
 }

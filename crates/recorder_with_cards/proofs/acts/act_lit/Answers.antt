@@ -18,13 +18,13 @@ use Rattle.run_acts.specs.declared.run.Run.{Run}
 use Rattle.run_acts.specs.Power.{is_lit, cut_run}
 use Rattle.run_acts.specs.Recording.{GoesOnOrFails, log_of, IsNow, RunFails, RunWithin}
 use Rattle.run_acts.specs.Going.{IsAt}
-use Rattle.run_acts.specs.Room.{falls_of}
+use Rattle.run_acts.specs.Room.{falls_of, cuts_within}
 use Rattle.run_acts.proofs.Standing.{cut-at}
 use Rattle.run_acts.proofs.Torn.{cut-falls}
 use Rattle.recorder_with_cards.specs.Acting.{put_count, moment_of, IsDone, IsActedBy, CallsNone, refusal_lines}
 use Rattle.recorder_with_cards.proofs.ActsRecorded.{cut, left, refused}
 use Rattle.recorder_with_cards.proofs.Allowed.{fine-selected, refused-selected}
-use Rattle.recorder_with_cards.proofs.Rooms.{few-wait, room-cut}
+use Rattle.recorder_with_cards.proofs.Rooms.{few-wait, room-cut, room-less}
 use Rattle.run_acts.specs.run_note_record.Noting.{Acting}
 use Rattle.run_acts.specs.Evented.{EventsGoOn, WithinEvented}
 use Rattle.run_acts.specs.RunRinged.{WithinRinged, RingsGoOn, with_cut, InSecondRinged, RingsCut}
@@ -95,7 +95,7 @@ module _ (g : Over) (c : After-carry_out g) where
     many = let long = length-append front (c.args.deed.action ∷ []) in omega (arith, long, here)
 
     some : 0 < s.number
-    some = let low = c.requires.going.low in let number = now.number in omega (arith, low, number)
+    some = let low = c.requires.may.going.low in let number = now.number in omega (arith, low, number)
 
     still_next : s.number ≡ mid.next
     still_next = now.number ∙ sym c.carry_out.ensures.done.stays.next
@@ -137,7 +137,7 @@ module _ (g : Over) (c : After-carry_out g) where
         let w = h.ringed.evented.within in
         let watched = done-watched c.args.deed.action (moment_of c.args.deed.begun run) c.args.deed.speed (is_err c.carry_out.result) run mid out told c.carry_out.ensures.done.action_done in
         in-carded_lit o done s mid told behind c.args.deed.begun (record {
-          ringed = ringed-lit o done s mid told behind c.args.deed.begun (ap is_lit (c.carry_out.ensures.done.stays.power ∙ c.requires.lit)) (ringed-goes well h.ringed);
+          ringed = ringed-lit o done s mid told behind c.args.deed.begun (ap is_lit (c.carry_out.ensures.done.stays.power ∙ c.requires.may.lit)) (ringed-goes well h.ringed);
           vehicle = ap (λ m. m.registration) watched.memory ∙ h.vehicle;
           cards = cards-on o done s c.args.deed.begun mid told behind more rest w.within.b all-so many some (subst (λ (b : Bool). GoesOnOrFails b o done s (In c.args.deed.begun) [] mid told behind w.within.b) well (goes w))
               (subst (λ (b : Bool). CardsGoOn b o done s w.within.b.run.log more (log_of told) behind) well (carded h));
@@ -165,7 +165,7 @@ module _ (g : Over) (c : After-carry_out g) where
           (subst (λ (b : Bool). EventsGoOn b o done s w.within.b.run (In c.args.deed.begun) Acting (log_of told) behind) failed (noted h.evented))
           (done-watched c.args.deed.action (moment_of c.args.deed.begun run) c.args.deed.speed (is_err c.carry_out.result) run mid out told c.carry_out.ensures.done.action_done) stays.next stays.unfound cut_so told_so)
           more many (rings-cut h)
-          (cut-stores o done s (length front) c.args.deed.begun run mid out told before behind h more rest many (fails w) (stays.power ∙ c.requires.lit) (left front rest c.args.deed.action s here are) stays.unfound (rings-cut h))
+          (cut-stores o done s (length front) c.args.deed.begun run mid out told before behind h more rest many (fails w) (stays.power ∙ c.requires.may.lit) (left front rest c.args.deed.action s here are) stays.unfound (rings-cut h))
           cut_so told_so)
 
       carded-lost : WithinCarded o done s (length front) run out before → InSecondCarded o done s c.args.deed.begun new after behind
@@ -187,45 +187,70 @@ module _ (g : Over) (c : After-carry_out g) where
                 (stood-on o done (log_of out) before behind h.past (stood h));
           })
 
+-- ---- what is asked as it is carried out
+
+pub carry_out-requires-clause-acting : goal.carry_out-requires-clause-acting
+carry_out-requires-clause-acting g c = record {
+  lit = c.requires.may.lit;
+  low = c.requires.may.going.low;
+  small = c.requires.may.going.small;
+  held = c.requires.may.going.held;
+  going = c.requires.may.going.lit (ap is_lit c.requires.may.lit);
+}
+
+pub carry_out-requires-clause-room : goal.carry_out-requires-clause-room
+carry_out-requires-clause-room g c =
+    room-less cuts_within c.args.run.now c.args.outcome.now 1 1 0 0 (put_count c.args.deed.action) (put_count c.args.deed.action) 1 0 (omega arith) (omega arith) (omega arith) (omega arith) c.requires.may.room
+
 -- ---- the unit failed: power is lost
 
-pub returns-then-is_err-clause-going : goal.returns-then-is_err-clause-going
-returns-then-is_err-clause-going g c =
-    let new : Run = c.carry_out.new.run in
-    let held = c.carry_out.ensures.behind.held.held in
-    let same = c.carry_out.ensures.done.stays.next in
-    let low = c.requires.going.low in
-    let small = c.requires.going.small in
-    subst (λ (r : Run). IsAt (r.next / 60) r (g.M.Medium.state c.carry_out.new.unit) (g.C.Chip.card c.carry_out.new.card_a) (g.D.Chip.card c.carry_out.new.card_b) (g.C.Chip.state c.carry_out.new.card_a) (g.D.Chip.state c.carry_out.new.card_b)) (sym c.cut.ensures.run)
-    (cut-at new (new.next / 60) (new.next / 60) new.next (omega (arith, low, same)) (omega (arith, small, same)) held held.minute (omega arith))
-
-pub returns-then-is_err-clause-room : goal.returns-then-is_err-clause-room
-returns-then-is_err-clause-room g c = λ left offs insertions actions h.
-    let run = c.args.run.now in
-    let new : Run = c.carry_out.new.run in
-    let stand = c.carry_out.ensures.behind.held.held.stand in
-    let dark = ap (λ (r : Run). falls_of r.keeper.cabin) c.cut.ensures.run in
-    let less = cut-falls new.next stand.0 stand.1 new.keeper.cabin stand.2 in
-    room-cut run new c.args.outcome.now c.carry_out.new.outcome (put_count c.args.deed.action) c.carry_out.ensures.done.stays.next c.requires.lit c.carry_out.ensures.takes c.cut.new.self (record c.carry_out.new.outcome { breaks = c.cut.new.breaks })
-    (ap (λ (r : Run). r.power) c.cut.ensures.run) (ap (λ (r : Run). r.next) c.cut.ensures.run) (few-wait (run.next / 60) run (c.requires.going.lit (ap is_lit c.requires.lit))) (omega (arith, dark, less))
-    (ap (λ (l : Listed Break). length l.items) c.cut.ensures.breaks ∙ lines-length (cut_at new.next true c.args.deed.begun ∷ []) c.carry_out.new.outcome.breaks) (ap (λ (l : Listed Break). l.room) c.cut.ensures.breaks) refl refl refl
-    left offs insertions actions h
+pub returns-then-is_err-clause-behind : goal.returns-then-is_err-clause-behind
+returns-then-is_err-clause-behind g c = record {
+  going =
+      let new : Run = c.carry_out.new.run in
+      let held = c.carry_out.ensures.behind.held.held in
+      let same = c.carry_out.ensures.done.stays.next in
+      let low = c.requires.may.going.low in
+      let small = c.requires.may.going.small in
+      subst (λ (r : Run). IsAt (r.next / 60) r (g.M.Medium.state c.carry_out.new.unit) (g.C.Chip.card c.carry_out.new.card_a) (g.D.Chip.card c.carry_out.new.card_b) (g.C.Chip.state c.carry_out.new.card_a) (g.D.Chip.state c.carry_out.new.card_b)) (sym c.cut.ensures.run)
+      (cut-at new (new.next / 60) (new.next / 60) new.next (omega (arith, low, same)) (omega (arith, small, same)) held held.minute (omega arith));
+  room =
+      λ left offs insertions actions h.
+      let run = c.args.run.now in
+      let new : Run = c.carry_out.new.run in
+      let stand = c.carry_out.ensures.behind.held.held.stand in
+      let dark = ap (λ (r : Run). falls_of r.keeper.cabin) c.cut.ensures.run in
+      let less = cut-falls new.next stand.0 stand.1 new.keeper.cabin stand.2 in
+      room-cut run new c.args.outcome.now c.carry_out.new.outcome (put_count c.args.deed.action) c.carry_out.ensures.done.stays.next c.requires.may.lit c.carry_out.ensures.takes c.cut.new.self (record c.carry_out.new.outcome { breaks = c.cut.new.breaks })
+      (ap (λ (r : Run). r.power) c.cut.ensures.run) (ap (λ (r : Run). r.next) c.cut.ensures.run) (few-wait (run.next / 60) run (c.requires.may.going.lit (ap is_lit c.requires.may.lit))) (omega (arith, dark, less))
+      (ap (λ (l : Listed Break). length l.items) c.cut.ensures.breaks ∙ lines-length (cut_at new.next true c.args.deed.begun ∷ []) c.carry_out.new.outcome.breaks) (ap (λ (l : Listed Break). l.room) c.cut.ensures.breaks) refl refl refl
+      left offs insertions actions h;
+}
 
 -- ---- it goes on
 
-pub returns-else-is_err-clause-going : goal.returns-else-is_err-clause-going
-returns-else-is_err-clause-going g c =
-    let same = c.carry_out.ensures.done.stays.next in
-    let low = c.requires.going.low in
-    let small = c.requires.going.small in
-    let lit : is_lit c.carry_out.new.run.power ≡ true = ap is_lit (c.carry_out.ensures.done.stays.power ∙ c.requires.lit) in
-    record {
-      low = omega (arith, low, same);
-      small = omega (arith, small, same);
-      held = c.carry_out.ensures.behind.held.held;
-      dark = λ no. absurd (let bad : true ≡ false = sym lit ∙ no in cc);
-      lit = λ yes. ok_gives c.carry_out.result c.carry_out.ensures.behind.going (let well : is_err c.carry_out.result ≡ false = sym c.is_err.ensures.value ∙ c.if-is_err.false in well);
-    }
+pub returns-else-is_err-clause-behind : goal.returns-else-is_err-clause-behind
+returns-else-is_err-clause-behind g c = record {
+  going =
+      let same = c.carry_out.ensures.done.stays.next in
+      let low = c.requires.may.going.low in
+      let small = c.requires.may.going.small in
+      let lit : is_lit c.carry_out.new.run.power ≡ true = ap is_lit (c.carry_out.ensures.done.stays.power ∙ c.requires.may.lit) in
+      record {
+        low = omega (arith, low, same);
+        small = omega (arith, small, same);
+        held = c.carry_out.ensures.behind.held.held;
+        dark = λ no. absurd (let bad : true ≡ false = sym lit ∙ no in cc);
+        lit = λ yes. ok_gives c.carry_out.result c.carry_out.ensures.behind.going (let well : is_err c.carry_out.result ≡ false = sym c.is_err.ensures.value ∙ c.if-is_err.false in well);
+      };
+  room = first_of (search rules, grind (arith, common_steps));
+}
+
+pub returns-in-Err-clause-behind : goal.returns-in-Err-clause-behind
+returns-in-Err-clause-behind g c = record {
+  going = c.requires.may.going;
+  room = first_of (search rules, grind (arith, common_steps));
+}
 
 -- a line more tells of a refusal, with which so many actions have begun
 abbrev told_refused : Run → Outcome → SlotFault → (begun : ℕ) → Outcome
@@ -266,7 +291,7 @@ returns-in-Err-clause-promises g c = record {
       let out = c.args.outcome.now in
       let d : Devices = devices (g.M.Medium.state c.args.unit.now) (g.C.Chip.state c.args.card_a.now) (g.D.Chip.state c.args.card_b.now) in
       let told : Outcome = record out { refused = c.refuse.new.refused } in
-      let h = ringed-lit o done s run out d (length front) (ap is_lit c.requires.lit) in_ in
+      let h = ringed-lit o done s run out d (length front) (ap is_lit c.requires.may.lit) in_ in
       in-ringed_lit o done s run told d c.args.deed.begun
       (subst (λ (n : ℕ). WithinRinged o done s n run told d) here
       (refused-ringed o done s c.args.deed.speed run out d now front c.args.deed.action rest are h c.in-Err.fault (sym c.in-Err.ensures) told (ap (λ (l : Listed Refused). record out { refused = l }) c.refuse.ensures ∙ ap (λ (n : ℕ). told_refused run out c.in-Err.fault n) (sym here))));
@@ -278,9 +303,9 @@ returns-in-Err-clause-promises g c = record {
       let d : Devices = devices (g.M.Medium.state c.args.unit.now) (g.C.Chip.state c.args.card_a.now) (g.D.Chip.state c.args.card_b.now) in
       let told : Outcome = record out { refused = c.refuse.new.refused } in
       let told_is : told ≡ told_refused run out c.in-Err.fault (suc (length front)) = ap (λ (l : Listed Refused). record out { refused = l }) c.refuse.ensures ∙ ap (λ (n : ℕ). told_refused run out c.in-Err.fault n) (sym here) in
-      let h = carded-lit o done s run out d (length front) (ap is_lit c.requires.lit) in_ in
+      let h = carded-lit o done s run out d (length front) (ap is_lit c.requires.may.lit) in_ in
       let w = h.ringed.evented.within in
-      let low = c.requires.going.low in
+      let low = c.requires.may.going.low in
       let number = now.number in
       let some : 0 < s.number = omega (arith, low, number) in
       let more : List Action = front ++ c.args.deed.action ∷ [] in
@@ -334,12 +359,12 @@ returns-then-is_err-clause-promises g c = record {
       λ o done s now front rest are begun in_ time.
       let at = (goal.at.returns-then-is_err-clause-promises g c).After-carry_out in
       ringed-lost g at o done s now front rest are (omega (arith, begun)) time (sym c.is_err.ensures.value ∙ c.if-is_err.true) c.cut.new.self (record c.carry_out.new.outcome { breaks = c.cut.new.breaks }) c.cut.ensures.run (ap (λ (l : Listed Break). record c.carry_out.new.outcome { breaks = l }) c.cut.ensures.breaks)
-      (ringed-lit o done s (run g at) (out g at) (before g at) (length front) (ap is_lit c.requires.lit) in_);
+      (ringed-lit o done s (run g at) (out g at) (before g at) (length front) (ap is_lit c.requires.may.lit) in_);
   cards =
       λ o done s now front rest are begun in_ time.
       let at = (goal.at.returns-then-is_err-clause-promises g c).After-carry_out in
       carded-lost g at o done s now front rest are (omega (arith, begun)) time (sym c.is_err.ensures.value ∙ c.if-is_err.true) c.cut.new.self (record c.carry_out.new.outcome { breaks = c.cut.new.breaks }) c.cut.ensures.run (ap (λ (l : Listed Break). record c.carry_out.new.outcome { breaks = l }) c.cut.ensures.breaks)
-      (carded-lit o done s (run g at) (out g at) (before g at) (length front) (ap is_lit c.requires.lit) in_);
+      (carded-lit o done s (run g at) (out g at) (before g at) (length front) (ap is_lit c.requires.may.lit) in_);
 }
 
 pub returns-then-is_err-clause-goes : goal.returns-then-is_err-clause-goes
@@ -350,7 +375,7 @@ returns-then-is_err-clause-goes g c = record {
       let more = c.carry_out.ensures.goes.more in
       let told = ap (λ (l : Listed Break). length l.items) c.cut.ensures.breaks ∙ lines-length (cut_at c.carry_out.new.run.next true c.args.deed.begun ∷ []) c.carry_out.new.outcome.breaks in
       omega (arith, more, told);
-  broke = cut-broke _ _ _ _ _ (g.M.Medium.state c.args.unit.now) (g.M.Medium.state c.carry_out.new.unit) (is_err c.carry_out.result) (c.requires.going.lit (ap is_lit c.requires.lit)).ready.unit_ready.works c.carry_out.ensures.behind.held.cause (sym c.is_err.ensures.value ∙ c.if-is_err.true) (done-uncut c.args.deed.action _ c.args.deed.speed _ _ _ _ _ c.carry_out.ensures.done.action_done) (ap (λ (l : Listed Break). l.items) c.cut.ensures.breaks);
+  broke = cut-broke _ _ _ _ _ (g.M.Medium.state c.args.unit.now) (g.M.Medium.state c.carry_out.new.unit) (is_err c.carry_out.result) (c.requires.may.going.lit (ap is_lit c.requires.may.lit)).ready.unit_ready.works c.carry_out.ensures.behind.held.cause (sym c.is_err.ensures.value ∙ c.if-is_err.true) (done-uncut c.args.deed.action _ c.args.deed.speed _ _ _ _ _ c.carry_out.ensures.done.action_done) (ap (λ (l : Listed Break). l.items) c.cut.ensures.breaks);
   most = c.carry_out.ensures.goes.most;
 }
 
@@ -382,11 +407,11 @@ returns-else-is_err-clause-promises g c = record {
   ringed =
       λ o done s now front rest are begun in_ time.
       let at = (goal.at.returns-else-is_err-clause-promises g c).After-carry_out in
-      ringed-goes g at o done s now front rest are (omega (arith, begun)) time (sym c.is_err.ensures.value ∙ c.if-is_err.false) (ringed-lit o done s (run g at) (out g at) (before g at) (length front) (ap is_lit c.requires.lit) in_);
+      ringed-goes g at o done s now front rest are (omega (arith, begun)) time (sym c.is_err.ensures.value ∙ c.if-is_err.false) (ringed-lit o done s (run g at) (out g at) (before g at) (length front) (ap is_lit c.requires.may.lit) in_);
   cards =
       λ o done s now front rest are begun in_ time.
       let at = (goal.at.returns-else-is_err-clause-promises g c).After-carry_out in
-      carded-goes g at o done s now front rest are (omega (arith, begun)) time (sym c.is_err.ensures.value ∙ c.if-is_err.false) (carded-lit o done s (run g at) (out g at) (before g at) (length front) (ap is_lit c.requires.lit) in_);
+      carded-goes g at o done s now front rest are (omega (arith, begun)) time (sym c.is_err.ensures.value ∙ c.if-is_err.false) (carded-lit o done s (run g at) (out g at) (before g at) (length front) (ap is_lit c.requires.may.lit) in_);
 }
 
 pub returns-else-is_err-clause-goes : goal.returns-else-is_err-clause-goes

@@ -3,15 +3,13 @@ use Rattle.std.proofs.Common.{◌≡◌, ◌∙◌, ℕ, ◌/◌, false, [], Non
 use Rattle.std.specs.Prelude.{is_err}
 use Rattle.trace_model.specs.declared.Action.{Action}
 use Rattle.trace_model.specs.declared.Action.TheVariants.{Insert, Withdraw, Tear, Place, Manual}
-use Rattle.log_model.specs.Slots.{refusal}
 use Rattle.log_model.specs.declared.lines.Break.{Break}
-use Rattle.run_minutes.specs.card_slots.Calls.{logged, seat_in, card_in}
+use Rattle.run_minutes.specs.card_slots.Calls.{seat_in, card_in}
 use Rattle.run_acts.specs.run_crew.Cabin.{CabinIsSound}
 use Rattle.run_outcome.specs.Lines.{Listed}
 use Rattle.run_outcome.specs.declared.outcome.Outcome.{Outcome}
 use Rattle.run_minutes.specs.declared.keeper.Moment.{Moment}
 use Rattle.run_acts.specs.declared.run.Run.{Run}
-use Rattle.run_acts.specs.Power.{is_lit}
 use Rattle.run_acts.specs.Going.{CanBeCut, RunHasPowerAllSeated}
 use Rattle.run_acts.specs.Room.{Takes}
 use Rattle.run_acts.specs.Acting.{pulled_run, pulled_breaks}
@@ -76,7 +74,7 @@ module _ (g : Over) (c : After-insert g) where
   late-insert = ap (λ (m : Moment). m.late) c.moment-at.ensures
 
   room-insert : length c.args.outcome.now.marks.items + 3 * c.args.run.now.minutes.owing + MOST_OWED ≤ c.args.outcome.now.marks.room
-  room-insert = put-room c.args.run.now c.args.outcome.now (put_count c.args.deed.action) 0 c.requires.lit (few-wait (c.args.run.now.next / 60) c.args.run.now (c.requires.going.lit (ap is_lit c.requires.lit))) c.requires.room
+  room-insert = put-room c.args.run.now c.args.outcome.now (put_count c.args.deed.action) 0 c.requires.acting.lit (few-wait (c.args.run.now.next / 60) c.args.run.now c.requires.acting.going) c.requires.room
 
 module _ (g : Over) (c : After-withdraw g) where
   abbrev before-withdraw : Devices
@@ -126,13 +124,13 @@ module _ (g : Over) (c : After-pull g) where
       (subst (λ (l : Listed Break). P (Tear c.in-Tear.slot) (pulled_run torn_card c.args.run.now.next c.args.run.now) l) (sym told) h))
 
 pub insert-requires-clause-acting : goal.insert-requires-clause-acting
-insert-requires-clause-acting g c = record { lit = c.requires.lit; low = c.requires.going.low; small = c.requires.going.small; held = c.requires.going.held; going = c.requires.going.lit (ap is_lit c.requires.lit) }
+insert-requires-clause-acting g c = c.requires.acting
 
 pub withdraw-requires-clause-acting : goal.withdraw-requires-clause-acting
-withdraw-requires-clause-acting g c = record { lit = c.requires.lit; low = c.requires.going.low; small = c.requires.going.small; held = c.requires.going.held; going = c.requires.going.lit (ap is_lit c.requires.lit) }
+withdraw-requires-clause-acting g c = c.requires.acting
 
 pub note_place-requires-clause-acting : goal.note_place-requires-clause-acting
-note_place-requires-clause-acting g c = record { lit = c.requires.lit; low = c.requires.going.low; small = c.requires.going.small; held = c.requires.going.held; going = c.requires.going.lit (ap is_lit c.requires.lit) }
+note_place-requires-clause-acting g c = c.requires.acting
 
 pub insert-requires-clause-may : goal.insert-requires-clause-may
 insert-requires-clause-may g c = record {
@@ -152,12 +150,12 @@ returns-in-Select-clause-behind g c = record {
   held =
       record {
         held =
-            let h = c.requires.going.held in
+            let h = c.requires.acting.held in
             record { is_unit = h.is_unit; odometer = h.odometer; minute = h.minute; card_a = h.card_a; card_b = h.card_b; stand = h.stand };
-        cause = (no_reads (g.M.Medium.state c.args.unit.now) (c.requires.going.lit (ap is_lit c.requires.lit)).ready.unit_ready.works).cause;
+        cause = (no_reads (g.M.Medium.state c.args.unit.now) c.requires.acting.going.ready.unit_ready.works).cause;
       };
   going =
-      let lit = c.requires.going.lit (ap is_lit c.requires.lit) in
+      let lit = c.requires.acting.going in
       picked-going (c.args.run.now.next / 60) c.args.run.now c.select.new.self c.in-Select.slot c.in-Select.pick lit (c.select.ensures.picked lit.span lit.stands);
 }
 
@@ -189,12 +187,12 @@ returns-in-Manual-clause-behind g c = record {
       record {
         held =
             by-hand g c (λ a r. CanBeCut (r.next / 60) r (g.M.Medium.state c.args.unit.now) (g.C.Chip.card c.args.card_a.now) (g.D.Chip.card c.args.card_b.now) (g.C.Chip.state c.args.card_a.now) (g.D.Chip.state c.args.card_b.now))
-            (holding-held (hand g c) c.args.run.now (c.args.run.now.next / 60) (hand_card g c) (hand-stands g c) c.requires.going.held);
-        cause = (no_reads (g.M.Medium.state c.args.unit.now) (c.requires.going.lit (ap is_lit c.requires.lit)).ready.unit_ready.works).cause;
+            (holding-held (hand g c) c.args.run.now (c.args.run.now.next / 60) (hand_card g c) (hand-stands g c) c.requires.acting.held);
+        cause = (no_reads (g.M.Medium.state c.args.unit.now) c.requires.acting.going.ready.unit_ready.works).cause;
       };
   going =
       by-hand g c (λ a r. RunHasPowerAllSeated (r.next / 60) r (g.M.Medium.state c.args.unit.now) (g.C.Chip.card c.args.card_a.now) (g.D.Chip.card c.args.card_b.now) (g.C.Chip.state c.args.card_a.now) (g.D.Chip.state c.args.card_b.now))
-      (holding-going (hand g c) c.args.run.now (c.args.run.now.next / 60) (hand_card g c) (hand-stands g c) (c.requires.going.lit (ap is_lit c.requires.lit)));
+      (holding-going (hand g c) c.args.run.now (c.args.run.now.next / 60) (hand_card g c) (hand-stands g c) c.requires.acting.going);
 }
 
 pub returns-in-Manual-clause-takes : goal.returns-in-Manual-clause-takes
@@ -215,15 +213,15 @@ returns-in-Tear-clause-behind g c = record {
             let o = card_in (seat_in run.keeper.cabin.slots.seats c.in-Tear.slot) in
             let at = ap (λ (m : Moment). m.second / 60) c.moment-at.ensures in
             subst (λ (r : Run). CanBeCut (r.next / 60) r (g.M.Medium.state c.args.unit.now) (g.C.Chip.card c.args.card_a.now) (g.D.Chip.card c.args.card_b.now) (g.C.Chip.state c.args.card_a.now) (g.D.Chip.state c.args.card_b.now)) (sym c.pull.ensures.run)
-            (pulled-held run c.moment-at.result.second (omega (arith, at)) o (λ from leaving s. subst (λ (r : Run). CabinIsSound from leaving r.keeper.cabin) c.pull.ensures.run (c.pull.ensures.stands from leaving s)) c.requires.going.held);
-        cause = (no_reads (g.M.Medium.state c.args.unit.now) (c.requires.going.lit (ap is_lit c.requires.lit)).ready.unit_ready.works).cause;
+            (pulled-held run c.moment-at.result.second (omega (arith, at)) o (λ from leaving s. subst (λ (r : Run). CabinIsSound from leaving r.keeper.cabin) c.pull.ensures.run (c.pull.ensures.stands from leaving s)) c.requires.acting.held);
+        cause = (no_reads (g.M.Medium.state c.args.unit.now) c.requires.acting.going.ready.unit_ready.works).cause;
       };
   going =
       let run = c.args.run.now in
       let o = card_in (seat_in run.keeper.cabin.slots.seats c.in-Tear.slot) in
       let at = ap (λ (m : Moment). m.second / 60) c.moment-at.ensures in
       subst (λ (r : Run). RunHasPowerAllSeated (r.next / 60) r (g.M.Medium.state c.args.unit.now) (g.C.Chip.card c.args.card_a.now) (g.D.Chip.card c.args.card_b.now) (g.C.Chip.state c.args.card_a.now) (g.D.Chip.state c.args.card_b.now)) (sym c.pull.ensures.run)
-      (pulled-going run c.moment-at.result.second (omega (arith, at)) o (λ from leaving s. subst (λ (r : Run). CabinIsSound from leaving r.keeper.cabin) c.pull.ensures.run (c.pull.ensures.stands from leaving s)) (c.requires.going.lit (ap is_lit c.requires.lit)));
+      (pulled-going run c.moment-at.result.second (omega (arith, at)) o (λ from leaving s. subst (λ (r : Run). CabinIsSound from leaving r.keeper.cabin) c.pull.ensures.run (c.pull.ensures.stands from leaving s)) c.requires.acting.going);
 }
 
 pub returns-in-Tear-clause-takes : goal.returns-in-Tear-clause-takes
@@ -231,7 +229,7 @@ returns-in-Tear-clause-takes g c =
     let run = c.args.run.now in
     let o = c.args.outcome.now in
     let card = card_in (seat_in run.keeper.cabin.slots.seats c.in-Tear.slot) in
-    let stand = c.requires.going.held.stand in
+    let stand = c.requires.acting.held.stand in
     subst (λ (k : ℕ). Takes k k 0 run c.pull.new.run o (record o { breaks = c.pull.new.breaks })) (sym (ap put_count c.in-Tear.is))
     (subst (λ (r : Run). Takes 0 0 0 run r o (record o { breaks = c.pull.new.breaks })) (sym c.pull.ensures.run)
     (subst (λ (l : Listed Break). Takes 0 0 0 run (pulled_run card c.moment-at.result.second run) o (record o { breaks = l })) (sym c.pull.ensures.breaks)
@@ -272,11 +270,11 @@ returns-in-Insert-clause-done g c = record {
 
 pub returns-in-Insert-clause-promises : goal.returns-in-Insert-clause-promises
 returns-in-Insert-clause-promises g c = record {
-  recorded = by-insert g c (λ a m. RecordsAction a m.begun c.args.deed.speed (is_err c.insert.result) c.args.run.now c.insert.new.run c.args.outcome.now c.insert.new.outcome (before-insert g c) (behind-insert g c)) (c.insert.ensures.promises.recorded (late-insert g c) (room-insert g c));
-  evented = by-insert g c (λ a m. EventsAction a m.begun c.args.deed.speed (is_err c.insert.result) c.args.run.now c.insert.new.run c.args.outcome.now c.insert.new.outcome (before-insert g c) (behind-insert g c)) (c.insert.ensures.promises.evented (late-insert g c) (room-insert g c));
-  ringed = by-insert g c (λ a m. RingsAction a m.begun c.args.deed.speed (is_err c.insert.result) c.args.run.now c.insert.new.run c.args.outcome.now c.insert.new.outcome (before-insert g c) (behind-insert g c)) (c.insert.ensures.promises.ringed (late-insert g c) (room-insert g c));
-  cards = by-insert g c (λ a m. CardsAction a m.begun c.args.deed.speed (is_err c.insert.result) c.args.run.now c.args.outcome.now c.insert.new.outcome (before-insert g c) (behind-insert g c)) (c.insert.ensures.promises.cards (late-insert g c) (room-insert g c));
-  stands = by-insert g c (λ a m. StandsAction a m.begun c.args.deed.speed c.args.run.now c.args.outcome.now (before-insert g c) (behind-insert g c)) (c.insert.ensures.promises.stands (late-insert g c) (room-insert g c));
+  recorded = by-insert g c (λ a m. RecordsAction a m.begun c.args.deed.speed (is_err c.insert.result) c.args.run.now c.insert.new.run c.args.outcome.now c.insert.new.outcome (before-insert g c) (behind-insert g c)) (c.insert.ensures.promises (late-insert g c) (room-insert g c)).recorded;
+  evented = by-insert g c (λ a m. EventsAction a m.begun c.args.deed.speed (is_err c.insert.result) c.args.run.now c.insert.new.run c.args.outcome.now c.insert.new.outcome (before-insert g c) (behind-insert g c)) (c.insert.ensures.promises (late-insert g c) (room-insert g c)).evented;
+  ringed = by-insert g c (λ a m. RingsAction a m.begun c.args.deed.speed (is_err c.insert.result) c.args.run.now c.insert.new.run c.args.outcome.now c.insert.new.outcome (before-insert g c) (behind-insert g c)) (c.insert.ensures.promises (late-insert g c) (room-insert g c)).ringed;
+  cards = by-insert g c (λ a m. CardsAction a m.begun c.args.deed.speed (is_err c.insert.result) c.args.run.now c.args.outcome.now c.insert.new.outcome (before-insert g c) (behind-insert g c)) (c.insert.ensures.promises (late-insert g c) (room-insert g c)).cards;
+  stands = by-insert g c (λ a m. StandsAction a m.begun c.args.deed.speed c.args.run.now c.args.outcome.now (before-insert g c) (behind-insert g c)) (c.insert.ensures.promises (late-insert g c) (room-insert g c)).stands;
 }
 
 pub returns-in-Insert-clause-leaves : goal.returns-in-Insert-clause-leaves
@@ -538,7 +536,7 @@ returns-in-Tear-clause-done g c = record {
 
 pub returns-in-Tear-clause-promises : goal.returns-in-Tear-clause-promises
 returns-in-Tear-clause-promises g c = record {
-  recorded = by-tear g c (λ a r l. RecordsAction a c.args.deed.begun c.args.deed.speed false c.args.run.now r c.args.outcome.now (record c.args.outcome.now { breaks = l }) (torn g c) (torn g c)) (pulled-recorded (torn g c) c.in-Tear.slot c.args.deed.begun c.args.deed.speed c.args.run.now c.args.outcome.now _ (c.requires.going.lit (ap is_lit c.requires.lit)).cabin);
+  recorded = by-tear g c (λ a r l. RecordsAction a c.args.deed.begun c.args.deed.speed false c.args.run.now r c.args.outcome.now (record c.args.outcome.now { breaks = l }) (torn g c) (torn g c)) (pulled-recorded (torn g c) c.in-Tear.slot c.args.deed.begun c.args.deed.speed c.args.run.now c.args.outcome.now _ c.requires.acting.going.cabin);
   evented = by-tear g c (λ a r l. EventsAction a c.args.deed.begun c.args.deed.speed false c.args.run.now r c.args.outcome.now (record c.args.outcome.now { breaks = l }) (torn g c) (torn g c)) (pulled-evented (torn g c) c.in-Tear.slot c.args.deed.begun c.args.deed.speed c.args.run.now c.args.outcome.now);
   ringed = by-tear g c (λ a r l. RingsAction a c.args.deed.begun c.args.deed.speed false c.args.run.now r c.args.outcome.now (record c.args.outcome.now { breaks = l }) (torn g c) (torn g c)) (pulled-ringed (torn g c) c.in-Tear.slot c.args.deed.begun c.args.deed.speed c.args.run.now c.args.outcome.now);
   cards = by-tear g c (λ a r l. CardsAction a c.args.deed.begun c.args.deed.speed false c.args.run.now c.args.outcome.now (record c.args.outcome.now { breaks = l }) (torn g c) (torn g c)) (pulled-cards (torn g c) c.in-Tear.slot c.args.deed.begun c.args.deed.speed c.args.run.now c.args.outcome.now);

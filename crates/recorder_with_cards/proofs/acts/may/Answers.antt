@@ -1,11 +1,9 @@
-use Rattle.std.proofs.Common.{◌≡◌, ◌∙◌, Option, Some, None, ap, sym}
+use Rattle.std.proofs.Common.{◌∙◌, ap, sym}
 use Rattle.trace_model.specs.declared.Action.{Action}
-use Rattle.trace_model.specs.declared.Action.TheVariants.{Insert, Tear, Place, Withdraw, Manual}
-use Rattle.log_model.specs.declared.lines.SlotFault.{SlotFault}
+use Rattle.trace_model.specs.declared.Action.TheVariants.{Insert, Tear, Place, Withdraw}
 use Rattle.log_model.specs.Slots.{refusal}
 use Rattle.run_minutes.specs.card_slots.Calls.{logged}
-use Rattle.run_acts.specs.declared.run.Run.{Run}
-use Rattle.run_acts.specs.ByHand.{or_else, stop_of, stopped_in}
+use Rattle.run_acts.specs.ByHand.{stopped_in}
 use Rattle.recorder_with_cards.proofs.SlotLines.{slots-alone}
 use Rattle.recorder_with_cards.proofs.acts.may.Goals as goal
 

@@ -222,20 +222,28 @@ begin_second-requires-clause-room g c = record {
   unfound = first_of (search rules, grind (arith, common_steps));
 }
 
-pub act_all-requires-clause-dark : goal.act_all-requires-clause-dark
-act_all-requires-clause-dark g c = λ no.
-    let run = c.args.run.now in
-    let away : has_power run.power run.next ≡ false = sym c.in_ok-has_power.ensures.begun.has ∙ no in
-    ap (λ (r : Run). is_lit r.power) (c.in_ok-has_power.ensures.dark no).0 ∙ away-dark run.power run.next away
+pub act_all-requires-clause-may : goal.act_all-requires-clause-may
+act_all-requires-clause-may g c = record {
+  going = c.in_ok-has_power.ensures.behind.going;
+  dark =
+      λ no.
+      let run = c.args.run.now in
+      let away : has_power run.power run.next ≡ false = sym c.in_ok-has_power.ensures.begun.has ∙ no in
+      ap (λ (r : Run). is_lit r.power) (c.in_ok-has_power.ensures.dark no).0 ∙ away-dark run.power run.next away;
+  room =
+      let some = c.requires.some in
+      let s : ℕ = c.args.due.seconds in
+      let k : ℕ = insertions_in c.args.due.from c.args.due.to c.args.due.items.now in
+      let a : ℕ = c.args.due.to - c.args.due.from in
+      room-less cuts_within c.begin_second.new.run c.begin_second.new.outcome (1 + (s - 1)) 1 0 0 k k a a (omega arith) (omega arith) (omega arith) (omega arith)
+      (c.in_ok-has_power.ensures.behind.room (s - 1) 0 k a (room-less cuts_from c.args.run.now c.args.outcome.now s (1 + (s - 1)) 0 0 k k a a (omega (arith, some)) (omega arith) (omega arith) (omega arith) c.requires.may.room));
+}
 
-pub act_all-requires-clause-room : goal.act_all-requires-clause-room
-act_all-requires-clause-room g c =
-    let some = c.requires.some in
-    let s : ℕ = c.args.due.seconds in
-    let k : ℕ = insertions_in c.args.due.from c.args.due.to c.args.due.items.now in
-    let a : ℕ = c.args.due.to - c.args.due.from in
-    room-less cuts_within c.begin_second.new.run c.begin_second.new.outcome (1 + (s - 1)) 1 0 0 k k a a (omega arith) (omega arith) (omega arith) (omega arith)
-    (c.in_ok-has_power.ensures.room (s - 1) 0 k a (room-less cuts_from c.args.run.now c.args.outcome.now s (1 + (s - 1)) 0 0 k k a a (omega (arith, some)) (omega arith) (omega arith) (omega arith) c.requires.may.room))
+pub turn-requires-clause-going : goal.turn-requires-clause-going
+turn-requires-clause-going g c = c.act_all.ensures.behind.going
+
+pub drive_on-requires-clause-going : goal.drive_on-requires-clause-going
+drive_on-requires-clause-going g c = c.turn.ensures.behind.going
 
 pub turn-requires-clause-room : goal.turn-requires-clause-room
 turn-requires-clause-room g c =
@@ -244,9 +252,9 @@ turn-requires-clause-room g c =
     let k : ℕ = insertions_in c.args.due.from c.args.due.to c.args.due.items.now in
     let a : ℕ = c.args.due.to - c.args.due.from in
     room-less cuts_within c.act_all.new.run c.act_all.new.outcome (1 + (s - 1)) 1 0 0 0 0 0 0 (omega arith) (omega arith) (omega arith) (omega arith)
-    (c.act_all.ensures.room (s - 1) 0 0 0
+    (c.act_all.ensures.behind.room (s - 1) 0 0 0
     (room-less cuts_within c.begin_second.new.run c.begin_second.new.outcome (1 + (s - 1)) (1 + (s - 1)) 0 0 k (k + 0) a (a + 0) (omega arith) (omega arith) (omega arith) (omega arith)
-    (c.in_ok-has_power.ensures.room (s - 1) 0 k a (room-less cuts_from c.args.run.now c.args.outcome.now s (1 + (s - 1)) 0 0 k k a a (omega (arith, some)) (omega arith) (omega arith) (omega arith) c.requires.may.room))))
+    (c.in_ok-has_power.ensures.behind.room (s - 1) 0 k a (room-less cuts_from c.args.run.now c.args.outcome.now s (1 + (s - 1)) 0 0 k k a a (omega (arith, some)) (omega arith) (omega arith) (omega arith) c.requires.may.room))))
 
 pub drive_on-requires-clause-may : goal.drive_on-requires-clause-may
 drive_on-requires-clause-may g c = record {
@@ -262,9 +270,9 @@ drive_on-requires-clause-may g c = record {
       let s : ℕ = c.args.due.seconds in
       let k : ℕ = insertions_in c.args.due.from c.args.due.to c.args.due.items.now in
       let a : ℕ = c.args.due.to - c.args.due.from in
-      c.turn.ensures.room (s - 1) 0 0 0 (c.act_all.ensures.room (s - 1) 0 0 0
+      c.turn.ensures.behind.room (s - 1) 0 0 0 (c.act_all.ensures.behind.room (s - 1) 0 0 0
       (room-less cuts_within c.begin_second.new.run c.begin_second.new.outcome (1 + (s - 1)) (1 + (s - 1)) 0 0 k (k + 0) a (a + 0) (omega arith) (omega arith) (omega arith) (omega arith)
-      (c.in_ok-has_power.ensures.room (s - 1) 0 k a (room-less cuts_from c.args.run.now c.args.outcome.now s (1 + (s - 1)) 0 0 k k a a (omega (arith, some)) (omega arith) (omega arith) (omega arith) c.requires.may.room))));
+      (c.in_ok-has_power.ensures.behind.room (s - 1) 0 k a (room-less cuts_from c.args.run.now c.args.outcome.now s (1 + (s - 1)) 0 0 k k a a (omega (arith, some)) (omega arith) (omega arith) (omega arith) c.requires.may.room))));
   unfound =
       let turned = c.turn.ensures.turned.unfound in
       let acted = c.act_all.ensures.acted.unfound in
@@ -281,7 +289,7 @@ returns-clause-room g c = λ left offs insertions actions h.
     let k : ℕ = insertions_in c.args.due.from c.args.due.to c.args.due.items.now in
     let a : ℕ = c.args.due.to - c.args.due.from in
     let n : ℕ = s - 1 + left in
-    c.drive_on.ensures.room left offs insertions actions (c.turn.ensures.room n offs insertions actions (c.act_all.ensures.room n offs insertions actions (c.in_ok-has_power.ensures.room n offs (k + insertions) (a + actions)
+    c.drive_on.ensures.room left offs insertions actions (c.turn.ensures.behind.room n offs insertions actions (c.act_all.ensures.behind.room n offs insertions actions (c.in_ok-has_power.ensures.behind.room n offs (k + insertions) (a + actions)
     (room-less cuts_from c.args.run.now c.args.outcome.now (s + left) (1 + n) offs offs (k + insertions) (k + insertions) (a + actions) (a + actions) (omega (arith, some)) (omega arith) (omega arith) (omega arith) h))))
 
 pub returns-clause-gone : goal.returns-clause-gone
@@ -307,7 +315,7 @@ returns-in_err-has_power-clause-gone g c = record {
   going = first_of (search rules, grind (arith, common_steps));
   next = first_of (search rules, grind (arith, common_steps));
   unfound = first_of (search rules, grind (arith, common_steps));
-  is_unit = c.in_err-has_power.ensures.unit;
+  is_unit = c.in_err-has_power.ensures.behind.is_unit;
 }
 
 pub returns-clause-goes : goal.returns-clause-goes
@@ -356,7 +364,7 @@ returns-clause-promises g c = record {
       let begun = c.in_ok-has_power.ensures.promises.ringed o done s (record { number = refl; given = refl; speed_is = refl }) r (time-one g c time) in
       let behind = first-second g c RunRinged InSecondRinged o done begun
       (λ lit in_.
-      let acted = c.act_all.ensures.promises.ringed lit many few o done s (now-begun g c) [] [] (sym (append-nil (acts g c))) whole in_ (time-two g c time) in
+      let acted = (c.act_all.ensures.promises lit many few).ringed o done s (now-begun g c) [] [] (sym (append-nil (acts g c))) whole in_ (time-two g c time) in
       c.turn.ensures.promises.ringed o done s (now-acted g c) (many ∙ sym number) (λ more. absurd (omega (arith, more)))
       (subst (λ (n : ℕ). InSecondRinged o done s n c.act_all.new.run c.act_all.new.outcome (dev2 g c)) (sym number) acted) (time-three g c time))
       (λ away. dark-ringed o done c.args.run.now c.args.outcome.now (dev0 g c) r 1 c.args.due.speed c.number_of-begun.result (acts g c) (omega arith) (none-given g c away) (omega arith) c.turn.new.run c.turn.new.outcome (passed-on g c away many few) (refused-all g c away many few)) in
@@ -373,7 +381,7 @@ returns-clause-promises g c = record {
       let begun = c.in_ok-has_power.ensures.promises.cards o done s (record { number = refl; given = refl; speed_is = refl }) r (time-one g c time) in
       let behind = first-second g c RunCarded InSecondCarded o done begun
       (λ lit in_.
-      let acted = c.act_all.ensures.promises.cards lit many few o done s (now-begun g c) [] [] (sym (append-nil (acts g c))) whole in_ (time-two g c time) in
+      let acted = (c.act_all.ensures.promises lit many few).cards o done s (now-begun g c) [] [] (sym (append-nil (acts g c))) whole in_ (time-two g c time) in
       turned-carded o done s 1 c.args.due.speed c.number_of-begun.result c.act_all.new.run c.turn.new.run c.act_all.new.outcome c.turn.new.outcome (dev2 g c) (dev3 g c) (many ∙ sym number) positive
       (subst (λ (n : ℕ). InSecondCarded o done s n c.act_all.new.run c.act_all.new.outcome (dev2 g c)) (sym number) acted) c.turn.ensures.turned.seconds
       (λ x. c.turn.ensures.promises.ringed o done s (now-acted g c) (many ∙ sym number) (λ more. absurd (omega (arith, more))) x (time-three g c time))

@@ -153,28 +153,31 @@ begin_second-requires-clause-room g c = record {
   unfound = first_of (search rules, grind (arith, common_steps));
 }
 
+pub turn-requires-clause-going : goal.turn-requires-clause-going
+turn-requires-clause-going g c = c.in_ok-begin_second.ensures.behind.going
+
 pub turn-requires-clause-room : goal.turn-requires-clause-room
 turn-requires-clause-room g c =
     let some = c.requires.stretch.some in
     let n : ℕ = c.args.more.seconds in
     room-less cuts_within c.begin_second.new.run c.begin_second.new.outcome (1 + (n - 1)) n 0 0 0 0 0 0 (omega arith) (omega arith) (omega arith) (omega arith)
-    (c.in_ok-begin_second.ensures.room (n - 1) 0 0 0 (room-less cuts_from c.args.run.now c.args.outcome.now n (1 + (n - 1)) 0 0 0 0 0 0 (omega (arith, some)) (omega arith) (omega arith) (omega arith) c.requires.room.room))
+    (c.in_ok-begin_second.ensures.behind.room (n - 1) 0 0 0 (room-less cuts_from c.args.run.now c.args.outcome.now n (1 + (n - 1)) 0 0 0 0 0 0 (omega (arith, some)) (omega arith) (omega arith) (omega arith) c.requires.room.room))
 
 pub returns-clause-room : goal.returns-clause-room
 returns-clause-room g c = λ left offs insertions actions h.
     let some = c.requires.stretch.some in
     let n : ℕ = c.args.more.seconds in
-    c.turn.ensures.room left offs insertions actions
+    c.turn.ensures.behind.room left offs insertions actions
     (room-less cuts_within c.begin_second.new.run c.begin_second.new.outcome (1 + (n - 1 + left)) (n + left) offs offs insertions insertions actions actions (omega arith) (omega arith) (omega arith) (omega arith)
-    (c.in_ok-begin_second.ensures.room (n - 1 + left) offs insertions actions (room-less cuts_from c.args.run.now c.args.outcome.now (n + left) (1 + (n - 1 + left)) offs offs insertions insertions actions actions (omega (arith, some)) (omega arith) (omega arith) (omega arith) h)))
+    (c.in_ok-begin_second.ensures.behind.room (n - 1 + left) offs insertions actions (room-less cuts_from c.args.run.now c.args.outcome.now (n + left) (1 + (n - 1 + left)) offs offs insertions insertions actions actions (omega (arith, some)) (omega arith) (omega arith) (omega arith) h)))
 
 pub returns-clause-gone : goal.returns-clause-gone
 returns-clause-gone g c = record {
   late = tt;
-  going = c.turn.ensures.going;
+  going = c.turn.ensures.behind.going;
   next = let turned = c.turn.ensures.turned.next in let begun = c.in_ok-begin_second.ensures.begun.next in omega (arith, turned, begun);
   unfound = let turned = c.turn.ensures.turned.unfound in let few = c.turn.ensures.goes.more in let begun = c.in_ok-begin_second.ensures.begun.unfound in omega (arith, turned, few, begun);
-  is_unit = c.turn.ensures.going.held.is_unit;
+  is_unit = c.turn.ensures.behind.going.held.is_unit;
 }
 
 pub returns-in_err-begin_second-clause-gone : goal.returns-in_err-begin_second-clause-gone
@@ -183,7 +186,7 @@ returns-in_err-begin_second-clause-gone g c = record {
   going = first_of (search rules, grind (arith, common_steps));
   next = first_of (search rules, grind (arith, common_steps));
   unfound = first_of (search rules, grind (arith, common_steps));
-  is_unit = c.in_err-begin_second.ensures.unit;
+  is_unit = c.in_err-begin_second.ensures.behind.is_unit;
 }
 
 pub returns-clause-goes : goal.returns-clause-goes

@@ -198,23 +198,23 @@ returns-in_err-settle-clause-inserted g c = record {
 }
 
 pub returns-in_err-settle-clause-promises : goal.returns-in_err-settle-clause-promises
-returns-in_err-settle-clause-promises g c = record {
+returns-in_err-settle-clause-promises g c = λ late room. record {
   recorded =
-      λ late room o done s now front rest actions begun allowed within time.
+      λ o done s now front rest actions begun allowed within time.
       let at = (goal.at.returns-in_err-settle-clause-promises g c).After-settle in
       let r = c.in_err-settle.ensures.keeps in
       let records = subst (λ (b : Cabin). RecordsSettling r.decided c.args.put.at true (with_cabin b c.args.run.now) c.settle.new.run c.args.outcome.now c.settle.new.outcome (found g at) (settled g at)) c.put_in.ensures.kept r.recorded in
       let fails = unsettled c.args.put.slot c.args.put.card c.args.put.at c.args.put.speed c.args.run.now c.args.outcome.now (found g at) o done s now front rest actions c.requires.may.at begun late allowed within (ungiven_of c.requires.acting.going.span) c.requires.acting.going.cabin c.settle.new.run c.settle.new.outcome true (unsettles g c) r.decided r.given (settled g at) records time refl in
       subst (λ (f : Bool). GoesOnOrFails f o done s (In c.args.put.at.begun) [] c.settle.new.run c.settle.new.outcome (settled g at) within.within.b) (failed g c) fails;
   evented =
-      λ late room o done s now front rest actions begun allowed within events time.
+      λ o done s now front rest actions begun allowed within events time.
       let at = (goal.at.returns-in_err-settle-clause-promises g c).After-settle in
       let r = c.in_err-settle.ensures.keeps in
       let notes = subst (λ (b : Cabin). EventsSettling r.decided c.args.put.at true (with_cabin b c.args.run.now) c.settle.new.run c.args.outcome.now c.settle.new.outcome (found g at) (settled g at)) c.put_in.ensures.kept r.evented in
       let fails = unsettled-evented c.args.put.slot c.args.put.card c.args.put.at c.args.put.speed c.args.run.now c.args.outcome.now (found g at) o done s now front rest actions c.requires.may.at begun late allowed within (ungiven_of c.requires.acting.going.span) c.requires.acting.going.cabin (bare g at) c.settle.new.run c.settle.new.outcome true (unsettles g c) r.decided r.given (settled g at) notes time events refl in
       subst (λ (f : Bool). EventsGoOn f o done s within.within.b.run (In c.args.put.at.begun) Acting (log_of c.settle.new.outcome) (settled g at)) (failed g c) fails;
   ringed =
-      λ late room o done s now front rest actions begun allowed within spans t rings time.
+      λ o done s now front rest actions begun allowed within spans t rings time.
       let run = c.args.run.now in
       let out = c.args.outcome.now in
       let put : Run = put_run c.args.put.slot c.args.put.card run in
@@ -238,7 +238,7 @@ returns-in_err-settle-clause-promises g c = record {
       (fewer-seats put mid (ap (λ (r : Run). r.noted) settles.only) lines.sessions) lines.odometer (ap (λ (r : Run). r.noted) settles.only) in
       subst (λ (f : Bool). RingsGoOn f o done s within.within.b (front ++ Insert c.args.put.slot c.args.put.card ∷ []) mid (log_of told) spans t e) (failed g c) rung;
   cards =
-      λ late room o done s now front rest actions begun allowed vehicle within cards time.
+      λ o done s now front rest actions begun allowed vehicle within cards time.
       let run = c.args.run.now in
       let out = c.args.outcome.now in
       let put : Run = put_run c.args.put.slot c.args.put.card run in
@@ -259,7 +259,7 @@ returns-in_err-settle-clause-promises g c = record {
       (more-left o d e (within.within.powered.lit.unit.unit_holds [] []).later within.within.there.clocks (settled-left c.settle.ensures.goes.keeping)) still in
       subst (λ (f : Bool). CardsGoOn f o done s within.within.b.run.log (front ++ Insert c.args.put.slot c.args.put.card ∷ []) (log_of told) e) (failed g c) goes;
   stands =
-      λ late room o done s now front rest actions begun allowed within time.
+      λ o done s now front rest actions begun allowed within time.
       let run = c.args.run.now in
       let out = c.args.outcome.now in
       let mid : Run = c.settle.new.run in
@@ -339,22 +339,22 @@ returns-clause-inserted g c = record {
 }
 
 pub returns-clause-promises : goal.returns-clause-promises
-returns-clause-promises g c = record {
+returns-clause-promises g c = λ late room. record {
   recorded =
-      λ late room o done s now front rest actions begun allowed within time.
+      λ o done s now front rest actions begun allowed within time.
       let r = c.in_ok-settle.ensures.keeps in
       inserted c.args.put.slot c.args.put.card c.args.put.at c.args.put.speed c.args.run.now c.args.outcome.now (found g (settling g c)) o done s now front rest actions c.requires.may.at begun late allowed within (ungiven_of c.requires.acting.going.span) c.requires.acting.going.cabin c.settle.new.run c.settle.new.outcome false (settles g c) r.decided r.given (settled g (settling g c)) (records g c)
       (time-settled g c time) refl (seat-there g (goal.at.returns-clause-promises g c).In_ok-settle) (is_err c.accept_in.result) c.accept_in.new.run c.accept_in.new.outcome (behind g c)
-      (c.accept_in.ensures.promises.recorded (room-then g c room)) time;
+      (c.accept_in.ensures.promises (room-then g c room)).recorded time;
   evented =
-      λ late room o done s now front rest actions begun allowed within events time.
+      λ o done s now front rest actions begun allowed within events time.
       let r = c.in_ok-settle.ensures.keeps in
       let q = c.in_ok-settle.ensures.keeps in
       let notes = subst (λ (b : Cabin). EventsSettling r.decided c.args.put.at false (with_cabin b c.args.run.now) c.settle.new.run c.args.outcome.now c.settle.new.outcome (found g (settling g c)) (settled g (settling g c))) c.put_in.ensures.kept r.evented in
       inserted-evented c.args.put.slot c.args.put.card c.args.put.at c.args.put.speed c.args.run.now c.args.outcome.now (found g (settling g c)) o done s now front rest actions c.requires.may.at begun late allowed within (ungiven_of c.requires.acting.going.span) c.requires.acting.going.cabin (bare g (settling g c)) c.settle.new.run c.settle.new.outcome false (settles g c) r.decided r.given (settled g (settling g c)) notes (time-settled g c time) events
-      q.decided q.given (records g c) refl (seat-there g (goal.at.returns-clause-promises g c).In_ok-settle) (is_err c.accept_in.result) c.accept_in.new.run c.accept_in.new.outcome (behind g c) (c.accept_in.ensures.promises.evented (room-then g c room)) time;
+      q.decided q.given (records g c) refl (seat-there g (goal.at.returns-clause-promises g c).In_ok-settle) (is_err c.accept_in.result) c.accept_in.new.run c.accept_in.new.outcome (behind g c) (c.accept_in.ensures.promises (room-then g c room)).evented time;
   ringed =
-      λ late room o done s now front rest actions begun allowed within spans t rings time.
+      λ o done s now front rest actions begun allowed within spans t rings time.
       let run = c.args.run.now in
       let out = c.args.outcome.now in
       let put : Run = put_run c.args.put.slot c.args.put.card run in
@@ -384,11 +384,11 @@ returns-clause-promises g c = record {
       let counted : mid.noted ≤ length (log_of told).finds = let few = rings.counted in let same = ap (λ (l : RunLog). length l.finds) log in omega (arith, few, same, noted) in
       let j = next-judged c.args.put.slot c.args.put.card c.args.put.at c.args.put.speed run out d o done s now front rest actions c.requires.may.at begun late allowed within (ungiven_of c.requires.acting.going.span) c.requires.acting.going.cabin mid told false settles q.decided q.given e (records g c) before refl (seat-there g (goal.at.returns-clause-promises g c).In_ok-settle) (with_second spans run.keeper.odometer t)
       (odometer-mid o done s front rest c.args.put.slot c.args.put.card actions run out d within spans t rings fine mid told e lines.lines log tears leaves left places fewer lines.odometer noted (entering_by (length front) (Insert c.args.put.slot c.args.put.card)))
-      counted (is_err c.accept_in.result) c.accept_in.new.run c.accept_in.new.outcome last (c.accept_in.ensures.promises.ringed (room-then g c room)) time in
+      counted (is_err c.accept_in.result) c.accept_in.new.run c.accept_in.new.outcome last (c.accept_in.ensures.promises (room-then g c room)).ringed time in
       inserted-ringed o done s front rest c.args.put.slot c.args.put.card actions run out d within spans t rings fine mid told e lines.lines log tears leaves left places fewer lines.odometer noted
       (is_err c.accept_in.result) c.accept_in.new.run c.accept_in.new.outcome last j;
   cards =
-      λ late room o done s now front rest actions begun allowed vehicle within cards time.
+      λ o done s now front rest actions begun allowed vehicle within cards time.
       let run = c.args.run.now in
       let out = c.args.outcome.now in
       let put : Run = put_run c.args.put.slot c.args.put.card run in
@@ -412,11 +412,11 @@ returns-clause-promises g c = record {
       (waits-within c.args.put.slot c.args.put.card c.args.put.at c.args.put.speed run out d o done s now front rest actions c.requires.may.at begun late allowed within (ungiven_of c.requires.acting.going.span) c.requires.acting.going.cabin mid told false settles v.decided v.given) before in
       let own : mid.keeper.memory.registration ≡ vehicle_in o = ap (λ m. m.registration) (settled-watched c.args.put.at false put mid out told settles).memory ∙ vehicle in
       let j = next-cards c.args.put.slot c.args.put.card c.args.put.at c.args.put.speed run out d o done s now front rest actions c.requires.may.at begun late allowed within (ungiven_of c.requires.acting.going.span) c.requires.acting.going.cabin mid told false settles q.decided q.given e (records g c) before refl (seat-there g (goal.at.returns-clause-promises g c).In_ok-settle)
-      (is_err c.accept_in.result) c.accept_in.new.outcome last (c.accept_in.ensures.promises.cards (room-then g c room)) own time in
+      (is_err c.accept_in.result) c.accept_in.new.outcome last (c.accept_in.ensures.promises (room-then g c room)).cards own time in
       inserted-cards o done s front rest c.args.put.slot c.args.put.card actions run out d within cards fine told e lines.lines log tears
       (stood-later o done s (In (length front)) [] None [] (values_of run out) d within.within e (settled-later c.settle.ensures.goes.keeping c.settle.ensures.goes.speeds)) left still (is_err c.accept_in.result) c.accept_in.new.outcome last j;
   stands =
-      λ late room o done s now front rest actions begun allowed within time.
+      λ o done s now front rest actions begun allowed within time.
       let run = c.args.run.now in
       let out = c.args.outcome.now in
       let put : Run = put_run c.args.put.slot c.args.put.card run in
@@ -434,7 +434,7 @@ returns-clause-promises g c = record {
       (waits-within c.args.put.slot c.args.put.card c.args.put.at c.args.put.speed run out d o done s now front rest actions c.requires.may.at begun late allowed within (ungiven_of c.requires.acting.going.span) c.requires.acting.going.cabin mid told false settles v.decided v.given) before in
       let own : mid.keeper.memory.registration ≡ vehicle_in o = ap (λ m. m.registration) (settled-watched c.args.put.at false put mid out told settles).memory ∙ within.vehicle in
       let j = next-cards c.args.put.slot c.args.put.card c.args.put.at c.args.put.speed run out d o done s now front rest actions c.requires.may.at begun late allowed within (ungiven_of c.requires.acting.going.span) c.requires.acting.going.cabin mid told false settles v.decided v.given e (records g c) before refl (seat-there g (goal.at.returns-clause-promises g c).In_ok-settle)
-      (is_err c.accept_in.result) c.accept_in.new.outcome last (c.accept_in.ensures.promises.cards (room-then g c room)) own time in
+      (is_err c.accept_in.result) c.accept_in.new.outcome last (c.accept_in.ensures.promises (room-then g c room)).cards own time in
       stand-then o d e last kept (record { left = j.left; made = j.made });
 }
 

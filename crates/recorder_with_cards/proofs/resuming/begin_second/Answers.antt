@@ -34,40 +34,56 @@ away-dark Lost next away = refl
 
 -- ---- it stays away
 
-pub returns-then-not-has_power-clause-going : goal.returns-then-not-has_power-clause-going
-returns-then-not-has_power-clause-going g c =
-    let away : has_power c.args.run.now.power c.args.run.now.next ≡ false = sym c.has_power.ensures ∙ c.if-not-has_power.true in
-    still-dark c.args.run.now (away-dark c.args.run.now.power c.args.run.now.next away) c.requires.going
-
-pub returns-then-not-has_power-clause-room : goal.returns-then-not-has_power-clause-room
-returns-then-not-has_power-clause-room g c = λ left offs insertions actions h.
-    let away : has_power c.args.run.now.power c.args.run.now.next ≡ false = sym c.has_power.ensures ∙ c.if-not-has_power.true in
-    room-away c.args.run.now c.args.outcome.now (1 + left) offs insertions actions away h
+pub returns-then-not-has_power-clause-behind : goal.returns-then-not-has_power-clause-behind
+returns-then-not-has_power-clause-behind g c = record {
+  is_unit = c.requires.going.held.is_unit;
+  going =
+      let away : has_power c.args.run.now.power c.args.run.now.next ≡ false = sym c.has_power.ensures ∙ c.if-not-has_power.true in
+      still-dark c.args.run.now (away-dark c.args.run.now.power c.args.run.now.next away) c.requires.going;
+  room =
+      λ left offs insertions actions h.
+      let away : has_power c.args.run.now.power c.args.run.now.next ≡ false = sym c.has_power.ensures ∙ c.if-not-has_power.true in
+      room-away c.args.run.now c.args.outcome.now (1 + left) offs insertions actions away h;
+}
 
 -- ---- it goes on
 
-pub returns-then-is_lit-clause-going : goal.returns-then-is_lit-clause-going
-returns-then-is_lit-clause-going g c =
-    let run = c.args.run.now in
-    let lit : is_lit run.power ≡ true = sym c.is_lit.ensures ∙ c.if-is_lit.true in
-    subst (λ (r : Run). IsInsideSecond r (g.M.Medium.state c.args.unit.now) (g.C.Chip.card c.args.card_a.now) (g.D.Chip.card c.args.card_b.now) (g.C.Chip.state c.args.card_a.now) (g.D.Chip.state c.args.card_b.now)) (sym c.end_minute.ensures.run)
-    (begun-at run lit (λ from few h. subst (λ (r : Run). KnowsEnded from (run.next / 60) r.keeper.cabin.slots) c.end_minute.ensures.run (c.end_minute.ensures.ended from few h)) c.requires.going)
-
-pub returns-then-is_lit-clause-room : goal.returns-then-is_lit-clause-room
-returns-then-is_lit-clause-room g c = λ left offs insertions actions h.
-    let run = c.args.run.now in
-    let lit : is_lit run.power ≡ true = sym c.is_lit.ensures ∙ c.if-is_lit.true in
-    subst (λ (r : Run). HasRoomWithin r c.args.outcome.now (1 + left) offs insertions actions) (sym c.end_minute.ensures.run)
-    (room-over (run.next % 60 == 0) run c.args.outcome.now (1 + left) offs insertions actions (lit-is run.power lit) h)
+pub returns-then-is_lit-clause-behind : goal.returns-then-is_lit-clause-behind
+returns-then-is_lit-clause-behind g c = record {
+  is_unit = c.requires.going.held.is_unit;
+  going =
+      let run = c.args.run.now in
+      let lit : is_lit run.power ≡ true = sym c.is_lit.ensures ∙ c.if-is_lit.true in
+      subst (λ (r : Run). IsInsideSecond r (g.M.Medium.state c.args.unit.now) (g.C.Chip.card c.args.card_a.now) (g.D.Chip.card c.args.card_b.now) (g.C.Chip.state c.args.card_a.now) (g.D.Chip.state c.args.card_b.now)) (sym c.end_minute.ensures.run)
+      (begun-at run lit (λ from few h. subst (λ (r : Run). KnowsEnded from (run.next / 60) r.keeper.cabin.slots) c.end_minute.ensures.run (c.end_minute.ensures.ended from few h)) c.requires.going);
+  room =
+      λ left offs insertions actions h.
+      let run = c.args.run.now in
+      let lit : is_lit run.power ≡ true = sym c.is_lit.ensures ∙ c.if-is_lit.true in
+      subst (λ (r : Run). HasRoomWithin r c.args.outcome.now (1 + left) offs insertions actions) (sym c.end_minute.ensures.run)
+      (room-over (run.next % 60 == 0) run c.args.outcome.now (1 + left) offs insertions actions (lit-is run.power lit) h);
+}
 
 -- ---- power is back
 
-pub returns-clause-room : goal.returns-clause-room
-returns-clause-room g c = λ left offs insertions actions h.
-    let run = c.args.run.now in
-    let dark : is_lit run.power ≡ false = sym c.is_lit.ensures ∙ c.if-is_lit.false in
-    let has : has_power run.power run.next ≡ true = sym c.has_power.ensures ∙ c.if-not-has_power.false in
-    room-awake run c.power_on.new.run c.args.outcome.now c.power_on.new.outcome c.power_on.ensures.woken.next dark has c.in_ok-power_on.ensures.woken.awake c.power_on.ensures.takes c.power_on.ensures.woken.refused (1 + left) offs insertions actions h
+pub returns-clause-behind : goal.returns-clause-behind
+returns-clause-behind g c = record {
+  is_unit = c.power_on.ensures.unit;
+  going = c.in_ok-power_on.ensures.going;
+  room =
+      λ left offs insertions actions h.
+      let run = c.args.run.now in
+      let dark : is_lit run.power ≡ false = sym c.is_lit.ensures ∙ c.if-is_lit.false in
+      let has : has_power run.power run.next ≡ true = sym c.has_power.ensures ∙ c.if-not-has_power.false in
+      room-awake run c.power_on.new.run c.args.outcome.now c.power_on.new.outcome c.power_on.ensures.woken.next dark has c.in_ok-power_on.ensures.woken.awake c.power_on.ensures.takes c.power_on.ensures.woken.refused (1 + left) offs insertions actions h;
+}
+
+pub returns-in_err-power_on-clause-behind : goal.returns-in_err-power_on-clause-behind
+returns-in_err-power_on-clause-behind g c = record {
+  is_unit = c.power_on.ensures.unit;
+  going = first_of (search rules, grind (arith, common_steps));
+  room = first_of (search rules, grind (arith, common_steps));
+}
 
 -- ---- what has changed
 
@@ -189,13 +205,13 @@ returns-in_err-power_on-clause-promises g c = record {
       let run = c.args.run.now in
       let dark : is_lit run.power ≡ false = sym c.is_lit.ensures ∙ c.if-is_lit.false in
       let has : has_power run.power run.next ≡ true = sym c.has_power.ensures ∙ c.if-not-has_power.false in
-      absurd (c.in_err-power_on.ensures.promises.ringed (marks-due run c.args.outcome.now dark has c.requires.room.room) o done s now rec has time);
+      absurd ((c.in_err-power_on.ensures.promises (marks-due run c.args.outcome.now dark has c.requires.room.room)).ringed o done s now rec has time);
   cards =
       λ o done s now rec time.
       let run = c.args.run.now in
       let dark : is_lit run.power ≡ false = sym c.is_lit.ensures ∙ c.if-is_lit.false in
       let has : has_power run.power run.next ≡ true = sym c.has_power.ensures ∙ c.if-not-has_power.false in
-      absurd (c.in_err-power_on.ensures.promises.cards (marks-due run c.args.outcome.now dark has c.requires.room.room) o done s now rec has time);
+      absurd ((c.in_err-power_on.ensures.promises (marks-due run c.args.outcome.now dark has c.requires.room.room)).cards o done s now rec has time);
   noted = first_of (search rules, grind (arith, common_steps));
 }
 
@@ -223,13 +239,13 @@ returns-clause-promises g c = record {
       let run = c.args.run.now in
       let dark : is_lit run.power ≡ false = sym c.is_lit.ensures ∙ c.if-is_lit.false in
       let has : has_power run.power run.next ≡ true = sym c.has_power.ensures ∙ c.if-not-has_power.false in
-      c.in_ok-power_on.ensures.promises.ringed (marks-due run c.args.outcome.now dark has c.requires.room.room) o done s now rec has time;
+      (c.in_ok-power_on.ensures.promises (marks-due run c.args.outcome.now dark has c.requires.room.room)).ringed o done s now rec has time;
   cards =
       λ o done s now rec time.
       let run = c.args.run.now in
       let dark : is_lit run.power ≡ false = sym c.is_lit.ensures ∙ c.if-is_lit.false in
       let has : has_power run.power run.next ≡ true = sym c.has_power.ensures ∙ c.if-not-has_power.false in
-      c.in_ok-power_on.ensures.promises.cards (marks-due run c.args.outcome.now dark has c.requires.room.room) o done s now rec has time;
+      (c.in_ok-power_on.ensures.promises (marks-due run c.args.outcome.now dark has c.requires.room.room)).cards o done s now rec has time;
   noted = λ dark has. c.in_ok-power_on.ensures.noted;
 }
 

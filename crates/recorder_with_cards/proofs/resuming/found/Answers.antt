@@ -126,7 +126,7 @@ module _ (g : Over) (c : After-resume g) where
     vehicle rec = ap (λ (r : Run). r.keeper.memory.registration) c.learn.ensures.run ∙ rec.vehicle
 
     resumed : RunRecorded o done run out dev0 → GoesOnOrCut (is_err c.resume.result) o done s (In 0) [] mid told dev1
-    resumed rec = c.resume.ensures.promises.recorded room_learnt o rec.origin (vehicle rec) done s rec.supply (values_of run out) rec.recorded (stay rec) (may rec) now.number now.given values time
+    resumed rec = (c.resume.ensures.promises room_learnt).recorded o rec.origin (vehicle rec) done s rec.supply (values_of run out) rec.recorded (stay rec) (may rec) now.number now.given values time
 
     limit : RunEvented o done run out dev0 → c.learn.new.self.keeper.memory.limit ≡ limit_in o
     limit all = ap (λ (r : Run). r.keeper.memory.limit) c.learn.ensures.run ∙ all.limit
@@ -134,7 +134,7 @@ module _ (g : Over) (c : After-resume g) where
     woken : RunEvented o done run out dev0 → EventsWoken (is_err c.resume.result) began o done s mid told dev1
     woken all =
         let rec = all.recorded in
-        c.resume.ensures.promises.evented room_learnt o rec.origin (vehicle rec) done s rec.supply (values_of run out) rec.recorded (stay rec) (may rec) now.number now.given now.speed_is values all.evented (limit all) time
+        (c.resume.ensures.promises room_learnt).evented o rec.origin (vehicle rec) done s rec.supply (values_of run out) rec.recorded (stay rec) (may rec) now.number now.given now.speed_is values all.evented (limit all) time
 
     rung : (all : RunRinged o done run out dev0) → RingsWoken (is_err c.resume.result) began o done s all.spans mid (log_of told) dev1
     rung all =
@@ -144,14 +144,14 @@ module _ (g : Over) (c : After-resume g) where
         let ringed : RingedBehind o done began s.number all.spans (seats_of run) dev0 = subst (λ (l : RunLog). RingedBehind o done l s.number all.spans (seats_of run) dev0) (sym log)
         (learned-ringed o done (log_of out) run.unfound c.last_kept-kept.result run.next s.number rec.recorded.recorded.followed.order now.number all.spans (seats_of run) dev0 all.ringed) in
         let off : StoresOff o (log_of out) run.unfound all.spans dev0 = subst (λ (b : Bool). Stores b o (log_of out) run.unfound run.keeper.odometer all.spans dev0) c.requires.may.dark all.stored in
-        c.resume.ensures.promises.ringed room_learnt o rec.origin (vehicle rec) done s rec.supply (values_of run out) rec.recorded (stay rec) (may rec) now.number now.given values all.spans (seats_of run) ringed (omega (arith, counted, noted)) off time
+        (c.resume.ensures.promises room_learnt).ringed o rec.origin (vehicle rec) done s rec.supply (values_of run out) rec.recorded (stay rec) (may rec) now.number now.given values all.spans (seats_of run) ringed (omega (arith, counted, noted)) off time
 
     shown : RunCarded o done run out dev0 → CardsWoken (is_err c.resume.result) began o done s mid (log_of told) dev1
     shown all =
         let rec = all.ringed.evented.recorded in
         let cards : CardsBehind o done began dev0 = subst (λ (l : RunLog). CardsBehind o done l dev0) (sym log)
         (learned-cards o done (log_of out) run.unfound c.last_kept-kept.result dev0 rec.recorded.recorded.followed.order all.ringed.evented.evented.gaps.known all.cards) in
-        c.resume.ensures.promises.cards room_learnt o rec.origin done s rec.supply (values_of run out) rec.recorded (stay rec) (may rec) now.number now.given now.speed_is values all.ringed.evented.evented (limit all.ringed.evented) (ap (λ (r : Run). r.keeper.memory.registration) c.learn.ensures.run ∙ all.vehicle) cards time
+        (c.resume.ensures.promises room_learnt).cards o rec.origin done s rec.supply (values_of run out) rec.recorded (stay rec) (may rec) now.number now.given now.speed_is values all.ringed.evented.evented (limit all.ringed.evented) (ap (λ (r : Run). r.keeper.memory.registration) c.learn.ensures.run ∙ all.vehicle) cards time
 
     -- what stood on them, or is exact as power comes, stands
     stood : RunCarded o done run out dev0 → HaveStood o done (log_of told) dev1
@@ -162,7 +162,7 @@ module _ (g : Over) (c : After-resume g) where
         (wholes-of U (g.C.Chip.state c.args.card_a.now) (g.D.Chip.state c.args.card_b.now) (g.met.C.Chip.coherent c.args.card_a.now) (g.met.D.Chip.coherent c.args.card_b.now)) all.past in
         let learnt : HaveStood o done began dev0 = subst (λ (l : RunLog). HaveStood o done l dev0) (sym log)
         (stood-told o done (log_of out) (found_log run.unfound c.last_kept-kept.result (log_of out)) dev0 (found-tells done o.from (log_of out) run.unfound c.last_kept-kept.result rec.recorded.recorded.followed.order) fresh) in
-        let stands = c.resume.ensures.promises.stands room_learnt o rec.origin done s rec.supply (values_of run out) rec.recorded (stay rec) (may rec) now.number now.given now.speed_is values all.ringed.evented.evented (limit all.ringed.evented) (ap (λ (r : Run). r.keeper.memory.registration) c.learn.ensures.run ∙ all.vehicle) time in
+        let stands = (c.resume.ensures.promises room_learnt).stands o rec.origin done s rec.supply (values_of run out) rec.recorded (stay rec) (may rec) now.number now.given now.speed_is values all.ringed.evented.evented (limit all.ringed.evented) (ap (λ (r : Run). r.keeper.memory.registration) c.learn.ensures.run ∙ all.vehicle) time in
         stood-told o done began (log_of told) dev1 stands.1 (stood-on o done began dev0 dev1 learnt stands.0)
 
 -- ---- where the clock is judged to have been put back: that is never so behind what is recorded
@@ -275,11 +275,11 @@ returns-in_err-judge_clock-clause-woken g c = record {
 }
 
 pub returns-in_err-judge_clock-clause-promises : goal.returns-in_err-judge_clock-clause-promises
-returns-in_err-judge_clock-clause-promises g c = record {
-  recorded = λ room o done s now rec has time. absurd (never g c o done rec has);
-  evented = λ room o done s now all has time. absurd (never g c o done all.recorded has);
-  ringed = λ room o done s now all has time. absurd (never g c o done all.evented.recorded has);
-  cards = λ room o done s now all has time. absurd (never g c o done all.ringed.evented.recorded has);
+returns-in_err-judge_clock-clause-promises g c = λ room. record {
+  recorded = λ o done s now rec has time. absurd (never g c o done rec has);
+  evented = λ o done s now all has time. absurd (never g c o done all.recorded has);
+  ringed = λ o done s now all has time. absurd (never g c o done all.evented.recorded has);
+  cards = λ o done s now all has time. absurd (never g c o done all.ringed.evented.recorded has);
 }
 
 pub returns-in_err-judge_clock-clause-goes : goal.returns-in_err-judge_clock-clause-goes
@@ -300,12 +300,12 @@ returns-then-is_err-clause-woken g c = record {
 }
 
 pub returns-then-is_err-clause-promises : goal.returns-then-is_err-clause-promises
-returns-then-is_err-clause-promises g c = record {
-  recorded = λ room o done s now rec has time. cut-in o done s c.cut.new.self (lost g c) (dev1 g (resuming g c)) 0 (recorded_cut g c room o done s now has time rec);
-  evented = λ room o done s now all has time. in-evented_cut o done s c.cut.new.self (lost g c) (dev1 g (resuming g c)) 0 (evented_cut g c room o done s now has time all);
-  ringed = λ room o done s now all has time. ringed_cut g c room o done s now has time all;
+returns-then-is_err-clause-promises g c = λ room. record {
+  recorded = λ o done s now rec has time. cut-in o done s c.cut.new.self (lost g c) (dev1 g (resuming g c)) 0 (recorded_cut g c room o done s now has time rec);
+  evented = λ o done s now all has time. in-evented_cut o done s c.cut.new.self (lost g c) (dev1 g (resuming g c)) 0 (evented_cut g c room o done s now has time all);
+  ringed = λ o done s now all has time. ringed_cut g c room o done s now has time all;
   cards =
-      λ room o done s now all has time.
+      λ o done s now all has time.
       let after : Devices = dev1 g (resuming g c) in
       let cards = subst (λ (f : Bool). CardsWoken f (began g (resuming g c)) o done s c.resume.new.run (log_of c.resume.new.outcome) after) (failed g c) (shown g (resuming g c) room o done s now has time all) in
       let is_log : with_cut (log_of c.resume.new.outcome) s [] ≡ log_of (lost g c) = ap (λ (u : ℕ). and_break (log_of c.resume.new.outcome) (cut_at u true 0)) (now.number ∙ sym (next g (resuming g c))) ∙ sym (ap log_of (line g c)) in
@@ -344,26 +344,26 @@ returns-clause-woken g c = record {
 }
 
 pub returns-clause-promises : goal.returns-clause-promises
-returns-clause-promises g c = record {
+returns-clause-promises g c = λ room. record {
   recorded =
-      λ room o done s now rec has time.
+      λ o done s now rec has time.
       let here = (goal.at.returns-clause-promises g c).After-resume in
       let well : is_err c.resume.result ≡ false = sym c.is_err.ensures.value ∙ c.if-is_err.false in
       let lit : c.resume.new.run.power ≡ Lit = ok_gives c.resume.result c.resume.ensures.resumed.power well in
       subst (λ (b : Bool). InSecondBy b o done s 0 (mid g here) (told g here) (dev1 g here)) (sym (ap is_lit lit)) (subst (λ (f : Bool). GoesOnOrCut f o done s (In 0) [] (mid g here) (told g here) (dev1 g here)) well (resumed g here room o done s now has time rec));
   evented =
-      λ room o done s now all has time.
+      λ o done s now all has time.
       let here = (goal.at.returns-clause-promises g c).After-resume in
       let well : is_err c.resume.result ≡ false = sym c.is_err.ensures.value ∙ c.if-is_err.false in
       in-evented_lit o done s (mid g here) (told g here) (dev1 g here) 0 (subst (λ (f : Bool). EventsWoken f (began g here) o done s (mid g here) (told g here) (dev1 g here)) well (woken g here room o done s now has time all)).0;
   ringed =
-      λ room o done s now all has time.
+      λ o done s now all has time.
       let here = (goal.at.returns-clause-promises g c).After-resume in
       let well : is_err c.resume.result ≡ false = sym c.is_err.ensures.value ∙ c.if-is_err.false in
       lit-woken o done s (mid g here) (told g here) (dev1 g here) (began g here) all.spans (subst (λ (f : Bool). EventsWoken f (began g here) o done s (mid g here) (told g here) (dev1 g here)) well (woken g here room o done s now has time all.evented))
       (subst (λ (f : Bool). RingsWoken f (began g here) o done s all.spans (mid g here) (log_of (told g here)) (dev1 g here)) well (rung g here room o done s now has time all));
   cards =
-      λ room o done s now all has time.
+      λ o done s now all has time.
       let here = (goal.at.returns-clause-promises g c).After-resume in
       let well : is_err c.resume.result ≡ false = sym c.is_err.ensures.value ∙ c.if-is_err.false in
       let on = subst (λ (f : Bool). EventsWoken f (began g here) o done s (mid g here) (told g here) (dev1 g here)) well (woken g here room o done s now has time all.ringed.evented) in

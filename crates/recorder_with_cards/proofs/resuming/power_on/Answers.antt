@@ -269,14 +269,14 @@ returns-in-Ok-clause-woken g c = record {
 }
 
 pub returns-in-Ok-clause-promises : goal.returns-in-Ok-clause-promises
-returns-in-Ok-clause-promises g c = record {
-  recorded = λ room o done s now rec has time. c.found.ensures.promises.recorded room o done s now (recorded g (goal.at.returns-in-Ok-clause-promises g c).After-open_unit o done has rec) has time;
-  evented = λ room o done s now all has time. c.found.ensures.promises.evented room o done s now (evented g (goal.at.returns-in-Ok-clause-promises g c).After-open_unit o done has all) has time;
-  ringed = λ room o done s now all has time. c.found.ensures.promises.ringed room o done s now (ringed g (goal.at.returns-in-Ok-clause-promises g c).After-open_unit o done has all) has time;
+returns-in-Ok-clause-promises g c = λ room. record {
+  recorded = λ o done s now rec has time. (c.found.ensures.promises room).recorded o done s now (recorded g (goal.at.returns-in-Ok-clause-promises g c).After-open_unit o done has rec) has time;
+  evented = λ o done s now all has time. (c.found.ensures.promises room).evented o done s now (evented g (goal.at.returns-in-Ok-clause-promises g c).After-open_unit o done has all) has time;
+  ringed = λ o done s now all has time. (c.found.ensures.promises room).ringed o done s now (ringed g (goal.at.returns-in-Ok-clause-promises g c).After-open_unit o done has all) has time;
   cards =
-      λ room o done s now all has time.
+      λ o done s now all has time.
       let at = (goal.at.returns-in-Ok-clause-promises g c).After-open_unit in
-      c.found.ensures.promises.cards room o done s now (record { ringed = ringed g at o done has all.ringed; vehicle = all.vehicle; cards = shown g at o done all.cards; past = behind-on o done (log_of (out g at)) (dev0 g at) (dev1 g at) all.past (stands g at o done has all.ringed.evented.recorded) (unit-rests o (log_of (out g at)) (g.M.Medium.state c.args.unit.now) (g.M.Medium.state c.open_unit.new.unit) (g.C.Chip.state c.args.card_a.now) (g.D.Chip.state c.args.card_b.now)); speeds = speeds g at o done all.speeds }) has time;
+      (c.found.ensures.promises room).cards o done s now (record { ringed = ringed g at o done has all.ringed; vehicle = all.vehicle; cards = shown g at o done all.cards; past = behind-on o done (log_of (out g at)) (dev0 g at) (dev1 g at) all.past (stands g at o done has all.ringed.evented.recorded) (unit-rests o (log_of (out g at)) (g.M.Medium.state c.args.unit.now) (g.M.Medium.state c.open_unit.new.unit) (g.C.Chip.state c.args.card_a.now) (g.D.Chip.state c.args.card_b.now)); speeds = speeds g at o done all.speeds }) has time;
 }
 
 pub returns-in-Ok-clause-goes : goal.returns-in-Ok-clause-goes
@@ -304,13 +304,13 @@ returns-in-Err-BadUnit-clause-woken g c = record {
 }
 
 pub returns-in-Err-BadUnit-clause-promises : goal.returns-in-Err-BadUnit-clause-promises
-returns-in-Err-BadUnit-clause-promises g c = record {
+returns-in-Err-BadUnit-clause-promises g c = λ room. record {
   recorded =
-      λ room o done s now rec has time.
+      λ o done s now rec has time.
       absurd (never-bad g (goal.at.returns-in-Err-BadUnit-clause-promises g c).After-open_unit o done has rec c.in-Err-BadUnit.place (rw c.in-Err-BadUnit.field-0-is at c.in-Err-BadUnit.ensures.bad));
-  evented = λ room o done s now all has time. absurd (never-bad g (goal.at.returns-in-Err-BadUnit-clause-promises g c).After-open_unit o done has all.recorded c.in-Err-BadUnit.place (rw c.in-Err-BadUnit.field-0-is at c.in-Err-BadUnit.ensures.bad));
-  ringed = λ room o done s now all has time. absurd (never-bad g (goal.at.returns-in-Err-BadUnit-clause-promises g c).After-open_unit o done has all.evented.recorded c.in-Err-BadUnit.place (rw c.in-Err-BadUnit.field-0-is at c.in-Err-BadUnit.ensures.bad));
-  cards = λ room o done s now all has time. absurd (never-bad g (goal.at.returns-in-Err-BadUnit-clause-promises g c).After-open_unit o done has all.ringed.evented.recorded c.in-Err-BadUnit.place (rw c.in-Err-BadUnit.field-0-is at c.in-Err-BadUnit.ensures.bad));
+  evented = λ o done s now all has time. absurd (never-bad g (goal.at.returns-in-Err-BadUnit-clause-promises g c).After-open_unit o done has all.recorded c.in-Err-BadUnit.place (rw c.in-Err-BadUnit.field-0-is at c.in-Err-BadUnit.ensures.bad));
+  ringed = λ o done s now all has time. absurd (never-bad g (goal.at.returns-in-Err-BadUnit-clause-promises g c).After-open_unit o done has all.evented.recorded c.in-Err-BadUnit.place (rw c.in-Err-BadUnit.field-0-is at c.in-Err-BadUnit.ensures.bad));
+  cards = λ o done s now all has time. absurd (never-bad g (goal.at.returns-in-Err-BadUnit-clause-promises g c).After-open_unit o done has all.ringed.evented.recorded c.in-Err-BadUnit.place (rw c.in-Err-BadUnit.field-0-is at c.in-Err-BadUnit.ensures.bad));
 }
 
 pub returns-in-Err-BadUnit-clause-goes : goal.returns-in-Err-BadUnit-clause-goes
@@ -333,12 +333,12 @@ returns-in-Err-Failed-clause-woken g c = record {
 }
 
 pub returns-in-Err-Failed-clause-promises : goal.returns-in-Err-Failed-clause-promises
-returns-in-Err-Failed-clause-promises g c = record {
-  recorded = λ room o done s now rec has time. cut-in o done s c.cut.new.self (lost g c) (dev1 g (reading g c)) 0 (recorded_cut g c o done s now has rec);
-  evented = λ room o done s now all has time. in-evented_cut o done s c.cut.new.self (lost g c) (dev1 g (reading g c)) 0 (evented_cut g c o done s now has all);
-  ringed = λ room o done s now all has time. ringed_cut g c o done s now has all;
+returns-in-Err-Failed-clause-promises g c = λ room. record {
+  recorded = λ o done s now rec has time. cut-in o done s c.cut.new.self (lost g c) (dev1 g (reading g c)) 0 (recorded_cut g c o done s now has rec);
+  evented = λ o done s now all has time. in-evented_cut o done s c.cut.new.self (lost g c) (dev1 g (reading g c)) 0 (evented_cut g c o done s now has all);
+  ringed = λ o done s now all has time. ringed_cut g c o done s now has all;
   cards =
-      λ room o done s now all has time.
+      λ o done s now all has time.
       let at = reading g c in
       let rec = all.ringed.evented.recorded in
       let low = c.requires.going.low in

@@ -376,12 +376,12 @@ module _ (g : Over) (c : After-accept_anew g) where
     first : (is_err c.accept_anew.result ≡ false → RunWaking p.o p.done p.s (woke g span p).0 (others g span) (CoDriver ∷ []) one out1 dev1) × (is_err c.accept_anew.result ≡ true → GoesOnOrCut true p.o p.done p.s (In 0) [] one out1 dev1)
     first =
         driver-judged p.o p.done p.s (woke g span p).0 (first_card g span) (others g span) (mid g span) (out g span) (mended g span) (woke g span p).1 (at-once CoDriver (card_in (mid g span).keeper.cabin.slots.seats.codriver)) refl (bare g span)
-        c.moment-at.result (now g span p) c.args.waking.speed (is_err c.accept_anew.result) one out1 c.accept_anew.ensures.accepted.enters dev1 still time (c.accept_anew.ensures.promises.recorded room-one)
+        c.moment-at.result (now g span p) c.args.waking.speed (is_err c.accept_anew.result) one out1 c.accept_anew.ensures.accepted.enters dev1 still time (c.accept_anew.ensures.promises room-one).recorded
 
     evented-one : WithEvents g span p → EventsGoOn (is_err c.accept_anew.result) p.o p.done p.s (woke g span p).0.run (In 0) Waking (log_of out1) dev1
     evented-one e =
         driver-evented p.o p.done p.s (woke g span p).0 (first_card g span) (others g span) (mid g span) (out g span) (mended g span) (woken g span p e).0 (woken g span p e).1 (at-once CoDriver (card_in (mid g span).keeper.cabin.slots.seats.codriver)) refl (bare g span)
-        c.moment-at.result (now g span p) c.args.waking.speed e.speed_is (is_err c.accept_anew.result) one out1 c.accept_anew.ensures.accepted.enters dev1 still time (c.accept_anew.ensures.promises.recorded room-one) (c.accept_anew.ensures.promises.evented room-one)
+        c.moment-at.result (now g span p) c.args.waking.speed e.speed_is (is_err c.accept_anew.result) one out1 c.accept_anew.ensures.accepted.enters dev1 still time (c.accept_anew.ensures.promises room-one).recorded (c.accept_anew.ensures.promises room-one).evented
 
     limit-one : WithEvents g span p → one.keeper.memory.limit ≡ limit_in p.o
     limit-one e = ap (λ (m : UnitFacts). m.limit) (same-one.0 ∙ ap (λ (k : Keeper). k.memory) c.begin_span.ensures.begun.keeper) ∙ e.limit
@@ -395,17 +395,17 @@ module _ (g : Over) (c : After-accept_anew g) where
     ringed-one : (q : WithRings g span p) → RingsGoOn (is_err c.accept_anew.result) p.o p.done p.s (woke g span p).0 [] one (log_of out1) q.spans (told g span p q) dev1
     ringed-one q =
         driver-ringed p.o p.done p.s (woke g span p).0 (first_card g span) (others g span) (mid g span) (out g span) (mended g span) q.spans (told g span p q) (starts g span p q) ((woke g span p).1.waking.none CoDriver (in-both CoDriver))
-        (at-once CoDriver (card_in (mid g span).keeper.cabin.slots.seats.codriver)) refl (bare g span) c.moment-at.result (now g span p) c.args.waking.speed (is_err c.accept_anew.result) one out1 c.accept_anew.ensures.accepted.enters dev1 still time (c.accept_anew.ensures.promises.recorded room-one) (c.accept_anew.ensures.promises.ringed room-one)
+        (at-once CoDriver (card_in (mid g span).keeper.cabin.slots.seats.codriver)) refl (bare g span) c.moment-at.result (now g span p) c.args.waking.speed (is_err c.accept_anew.result) one out1 c.accept_anew.ensures.accepted.enters dev1 still time (c.accept_anew.ensures.promises room-one).recorded (c.accept_anew.ensures.promises room-one).ringed
 
     cards-one : p.s.speed ≡ c.args.waking.speed → (run g span).keeper.memory.registration ≡ vehicle_in p.o → CardsBehind p.o p.done (log_of (out g span)) (dev0 g span) → WakesOn (is_err c.accept_anew.result) p.o p.done p.s (woke g span p).0.run.log (log_of out1) dev1
     cards-one speed_is vehicle shown =
         driver-woken p.o p.done p.s (woke g span p).0 (first_card g span) (others g span) (mid g span) (out g span) (mended g span) (woke g span p).1 (at-once CoDriver (card_in (mid g span).keeper.cabin.slots.seats.codriver)) refl (bare g span) (positive g span p) (vehicle-one p.o vehicle).0
-        (cards-begun g span p shown) c.moment-at.result (now g span p) c.args.waking.speed speed_is (is_err c.accept_anew.result) one out1 c.accept_anew.ensures.accepted.enters dev1 still time (c.accept_anew.ensures.promises.recorded room-one) (c.accept_anew.ensures.promises.cards room-one)
+        (cards-begun g span p shown) c.moment-at.result (now g span p) c.args.waking.speed speed_is (is_err c.accept_anew.result) one out1 c.accept_anew.ensures.accepted.enters dev1 still time (c.accept_anew.ensures.promises room-one).recorded (c.accept_anew.ensures.promises room-one).cards
 
     stands-one : p.s.speed ≡ c.args.waking.speed → (run g span).keeper.memory.registration ≡ vehicle_in p.o → StandsTo p.o p.done (out g span) out1 (dev0 g span) dev1
     stands-one speed_is vehicle =
         let one_ = driver-stands p.o p.done p.s (woke g span p).0 (first_card g span) (others g span) (mid g span) (out g span) (mended g span) (woke g span p).1 (at-once CoDriver (card_in (mid g span).keeper.cabin.slots.seats.codriver)) refl (bare g span) (positive g span p) (vehicle-one p.o vehicle).0
-        c.moment-at.result (now g span p) c.args.waking.speed speed_is (is_err c.accept_anew.result) one out1 c.accept_anew.ensures.accepted.enters dev1 still time (c.accept_anew.ensures.promises.cards room-one) in
+        c.moment-at.result (now g span p) c.args.waking.speed speed_is (is_err c.accept_anew.result) one out1 c.accept_anew.ensures.accepted.enters dev1 still time (c.accept_anew.ensures.promises room-one).cards in
         (stand-then p.o (dev0 g span) (mended g span) dev1 (stands-begun g span p) one_.0, one_.1)
 
 -- ---- and that in the co-driver slot
@@ -508,13 +508,13 @@ module _ (g : Over) (c : After-accept_anew-2 g) where
     second : GoesOnOrCut (is_err c.accept_anew-2.result) p.o p.done p.s (In 0) [] two out2 dev2
     second =
         codriver-judged p.o p.done p.s (woke g start p).0 second_card (one g driver) (out1 g driver) (dev1 g driver) waking refl bare-two c.moment-at.result (now g start p) c.args.waking.speed (is_err c.accept_anew-2.result) two out2 c.accept_anew-2.ensures.accepted.enters dev2 still-two time
-        (c.accept_anew-2.ensures.promises.recorded room-two)
+        (c.accept_anew-2.ensures.promises room-two).recorded
 
     -- nobody waits any more
     goes-on : is_err c.accept_anew-2.result ≡ false → RunWaking p.o p.done p.s (woke g start p).0 [] [] two out2 dev2
     goes-on fine =
         codriver-on p.o p.done p.s (woke g start p).0 second_card (one g driver) (out1 g driver) (dev1 g driver) waking refl bare-two c.moment-at.result (now g start p) c.args.waking.speed (is_err c.accept_anew-2.result) two out2 c.accept_anew-2.ensures.accepted.enters dev2 still-two time
-        (c.accept_anew-2.ensures.promises.recorded room-two) fine
+        (c.accept_anew-2.ensures.promises room-two).recorded fine
 
     evented-two : WithEvents g start p → EventsGoOn (is_err c.accept_anew-2.result) p.o p.done p.s (woke g start p).0.run (In 0) Waking (log_of out2) dev2
     evented-two e =
@@ -525,7 +525,7 @@ module _ (g : Over) (c : After-accept_anew-2 g) where
           evented = subst (λ (f : Bool). EventsGoOn f p.o p.done p.s (woke g start p).0.run (In 0) Waking (log_of (out1 g driver)) (dev1 g driver)) well (evented-one g driver p time-one e);
         } in
         codriver-evented p.o p.done p.s (woke g start p).0 second_card (one g driver) (out1 g driver) (dev1 g driver) behind refl bare-two c.moment-at.result (now g start p) c.args.waking.speed e.speed_is (is_err c.accept_anew-2.result) two out2 c.accept_anew-2.ensures.accepted.enters dev2 still-two time
-        (c.accept_anew-2.ensures.promises.recorded room-two) (c.accept_anew-2.ensures.promises.evented room-two)
+        (c.accept_anew-2.ensures.promises room-two).recorded (c.accept_anew-2.ensures.promises room-two).evented
 
     limit-two : WithEvents g start p → two.keeper.memory.limit ≡ limit_in p.o
     limit-two e = ap (λ (m : UnitFacts). m.limit) same-two.0 ∙ limit-one g driver p time-one e
@@ -543,7 +543,7 @@ module _ (g : Over) (c : After-accept_anew-2 g) where
           rings = subst (λ (f : Bool). RingsGoOn f p.o p.done p.s (woke g start p).0 [] (one g driver) (log_of (out1 g driver)) q.spans (told g start p q) (dev1 g driver)) well (ringed-one g driver p time-one q);
         } in
         codriver-ringed p.o p.done p.s (woke g start p).0 second_card (one g driver) (out1 g driver) (dev1 g driver) q.spans (told g start p q) behind refl bare-two c.moment-at.result (now g start p) c.args.waking.speed (is_err c.accept_anew-2.result) two out2 c.accept_anew-2.ensures.accepted.enters dev2 still-two time
-        (c.accept_anew-2.ensures.promises.recorded room-two) (c.accept_anew-2.ensures.promises.ringed room-two)
+        (c.accept_anew-2.ensures.promises room-two).recorded (c.accept_anew-2.ensures.promises room-two).ringed
 
     rings-two : (q : WithRings g start p) → RingsWoken (is_err c.accept_anew-2.result) (log_of (out g start)) p.o p.done p.s q.spans two (log_of out2) dev2
     rings-two q =
@@ -554,13 +554,13 @@ module _ (g : Over) (c : After-accept_anew-2 g) where
     cards-two speed_is vehicle shown =
         codriver-woken p.o p.done p.s (woke g start p).0 second_card (one g driver) (out1 g driver) (dev1 g driver) waking refl bare-two (positive g start p) (vehicle-one g driver p.o vehicle).1
         (subst (λ (f : Bool). WakesOn f p.o p.done p.s (woke g start p).0.run.log (log_of (out1 g driver)) (dev1 g driver)) well (cards-one g driver p time-one speed_is vehicle shown))
-        c.moment-at.result (now g start p) c.args.waking.speed speed_is (is_err c.accept_anew-2.result) two out2 c.accept_anew-2.ensures.accepted.enters dev2 still-two time (c.accept_anew-2.ensures.promises.recorded room-two) (c.accept_anew-2.ensures.promises.cards room-two)
+        c.moment-at.result (now g start p) c.args.waking.speed speed_is (is_err c.accept_anew-2.result) two out2 c.accept_anew-2.ensures.accepted.enters dev2 still-two time (c.accept_anew-2.ensures.promises room-two).recorded (c.accept_anew-2.ensures.promises room-two).cards
 
     stands-two : p.s.speed ≡ c.args.waking.speed → (run g start).keeper.memory.registration ≡ vehicle_in p.o → StandsTo p.o p.done (out g start) out2 (dev0 g start) dev2
     stands-two speed_is vehicle =
         let one_ = stands-one g driver p time-one speed_is vehicle in
         let two_ = codriver-stands p.o p.done p.s (woke g start p).0 second_card (one g driver) (out1 g driver) (dev1 g driver) waking refl bare-two (positive g start p) (vehicle-one g driver p.o vehicle).1
-        c.moment-at.result (now g start p) c.args.waking.speed speed_is (is_err c.accept_anew-2.result) two out2 c.accept_anew-2.ensures.accepted.enters dev2 still-two time (c.accept_anew-2.ensures.promises.cards room-two) in
+        c.moment-at.result (now g start p) c.args.waking.speed speed_is (is_err c.accept_anew-2.result) two out2 c.accept_anew-2.ensures.accepted.enters dev2 still-two time (c.accept_anew-2.ensures.promises room-two).cards in
         (stand-then p.o (dev0 g start) (dev1 g driver) dev2 one_.0 two_.0, tells-then (log_of (out g start)) (log_of (out1 g driver)) (log_of out2) p.done one_.1 two_.1)
 
     -- where all went well
@@ -892,9 +892,9 @@ returns-in_err-mend-clause-resumed g c = record {
 }
 
 pub returns-in_err-mend-clause-promises : goal.returns-in_err-mend-clause-promises
-returns-in_err-mend-clause-promises g c = record {
+returns-in_err-mend-clause-promises g c = λ room. record {
   recorded =
-      λ room o origin vehicle done s supply v r stay may number given values time.
+      λ o origin vehicle done s supply v r stay may number given values time.
       let U : State = g.M.Medium.state c.args.unit.now in
       let X : State = g.C.Chip.state c.args.card_a.now in
       let Y : State = g.D.Chip.state c.args.card_b.now in
@@ -905,7 +905,7 @@ returns-in_err-mend-clause-promises g c = record {
       (unmended o origin done s supply v U X Y r may number given (g.met.M.Medium.coherent c.args.unit.now) (wholes-of U X Y (g.met.C.Chip.coherent c.args.card_a.now) (g.met.D.Chip.coherent c.args.card_b.now)) loaded.works c.args.waking.journal (kept-of c.args.waking.journal U.image loaded.found)
       W true c.mend.ensures.leaves.moments c.mend.ensures.answers.goes.tells bad.answers.goes.cause c.mend.ensures.rules.holds bad.rules.first bad.rules.second c.args.run.now vehicle c.args.outcome.now values refl c.requires.may.dark);
   evented =
-      λ room o origin vehicle done s supply v r stay may number given speed_is values evented limit time.
+      λ o origin vehicle done s supply v r stay may number given speed_is values evented limit time.
       let p : Behind c.args.waking.journal.kept c.args.run.now c.args.outcome.now (as_found g c) = record { room = room; o = o; origin = origin; vehicle = vehicle; done = done; s = s; supply = supply; v = v; r = r; stay = stay; may = may; number = number; given = given; values = values } in
       let again : Progress = found_again c.args.waking.journal.kept (progress v supply r.book) in
       let silent = says c.args.waking.journal (g.M.Medium.state c.args.unit.now) (g.M.Medium.state c.mend.new.unit) (g.C.Chip.state c.args.card_a.now) (g.D.Chip.state c.args.card_b.now) (g.met.M.Medium.coherent c.args.unit.now) c.mend.ensures.leaves.moments in
@@ -915,7 +915,7 @@ returns-in_err-mend-clause-promises g c = record {
       (subst (λ (l : RunLog). Evented o (done ++ s ∷ []) (and_break l (cut_at s.number true 0)) again.unfound (suc v.next) Lost (as_left g c)) (sym (log-found g c p)) lost)
       (sym (ap (λ (x : Values). x.unfound) values)) (sym (ap (λ (x : Values). x.next) values)) limit);
   ringed =
-      λ room o origin vehicle done s supply v r stay may number given values spans seats ringed counted off time.
+      λ o origin vehicle done s supply v r stay may number given values spans seats ringed counted off time.
       let U : State = g.M.Medium.state c.args.unit.now in
       let X : State = g.C.Chip.state c.args.card_a.now in
       let Y : State = g.D.Chip.state c.args.card_b.now in
@@ -942,7 +942,7 @@ returns-in_err-mend-clause-promises g c = record {
         subst (λ (l : RunLog). StoresOff o (with_cut l s []) c.args.run.now.unfound after (as_left g c)) (sym (log-found g c p)) (subst (λ (n : ℕ). StoresOff o (with_cut q.log s []) n after (as_left g c)) (sym (ap (λ (x : Values). x.unfound) values)) stored),
       );
   cards =
-      λ room o origin done s supply v r stay may number given speed_is values evented limit vehicle shown time.
+      λ o origin done s supply v r stay may number given speed_is values evented limit vehicle shown time.
       let p : Behind c.args.waking.journal.kept c.args.run.now c.args.outcome.now (as_found g c) = record { room = room; o = o; origin = origin; vehicle = vehicle; done = done; s = s; supply = supply; v = v; r = r; stay = stay; may = may; number = number; given = given; values = values } in
       let q : Progress = found_again c.args.waking.journal.kept (progress v supply r.book) in
       let here_is : c.args.run.now.next ≡ v.next = ap (λ (x : Values). x.next) values in
@@ -952,7 +952,7 @@ returns-in_err-mend-clause-promises g c = record {
       let cut = unpowered-cards o done s q (read g c p).followed (read g c p).followed.power number given some_so (as_left g c) (subst (λ (l : RunLog). CardsBehind o done l (as_left g c)) (log-found g c p) alone) in
       subst (λ (f : Bool). CardsWoken f (log_of c.args.outcome.now) o done s c.args.run.now (log_of c.args.outcome.now) (as_left g c)) (failed-mend g c) (vehicle, subst (λ (l : RunLog). CardsBehind o (done ++ s ∷ []) (with_cut l s []) (as_left g c)) (sym (log-found g c p)) cut);
   stands =
-      λ room o origin done s supply v r stay may number given speed_is values evented limit vehicle time.
+      λ o origin done s supply v r stay may number given speed_is values evented limit vehicle time.
       let p : Behind c.args.waking.journal.kept c.args.run.now c.args.outcome.now (as_found g c) = record { room = room; o = o; origin = origin; vehicle = vehicle; done = done; s = s; supply = supply; v = v; r = r; stay = stay; may = may; number = number; given = given; values = values } in
       (record { left = (read g c p).left; made = unit-makes o (g.M.Medium.state c.args.unit.now) (g.M.Medium.state c.mend.new.unit) (g.C.Chip.state c.args.card_a.now) (g.D.Chip.state c.args.card_b.now) }, tells-self (log_of c.args.outcome.now) done);
 }
@@ -990,14 +990,14 @@ returns-in_err-accept_anew-clause-resumed g c = record {
 }
 
 pub returns-in_err-accept_anew-clause-promises : goal.returns-in_err-accept_anew-clause-promises
-returns-in_err-accept_anew-clause-promises g c = record {
+returns-in_err-accept_anew-clause-promises g c = λ room. record {
   recorded =
-      λ room o origin vehicle done s supply v r stay may number given values time.
+      λ o origin vehicle done s supply v r stay may number given values time.
       let card = (goal.at.returns-in_err-accept_anew-clause-promises g c).After-accept_anew in
       let p = premises g (span g card) room o origin vehicle done s supply v r stay may number given values in
       subst (λ (f : Bool). GoesOnOrCut f o done s (In 0) [] (one g card) (out1 g card) (dev1 g card)) (failed-one g c) ((first g card p time).1 (fails-one g c));
   evented =
-      λ room o origin vehicle done s supply v r stay may number given speed_is values evented limit time.
+      λ o origin vehicle done s supply v r stay may number given speed_is values evented limit time.
       let card = (goal.at.returns-in_err-accept_anew-clause-promises g c).After-accept_anew in
       let at = span g card in
       let p = premises g at room o origin vehicle done s supply v r stay may number given values in
@@ -1006,7 +1006,7 @@ returns-in_err-accept_anew-clause-promises g c = record {
       subst (λ (f : Bool). EventsWoken f (log_of (out g at)) o done s (one g card) (out1 g card) (dev1 g card)) (failed-one g c)
       (woken-fails o done s (woke g at p).0.run Waking (one g card) (out1 g card) (dev1 g card) (log_of (out g at)) cut (began-unfound g card p time) (began-next g card p time) (limit-one g card p time e));
   ringed =
-      λ room o origin vehicle done s supply v r stay may number given values spans seats ringed counted off time.
+      λ o origin vehicle done s supply v r stay may number given values spans seats ringed counted off time.
       let card = (goal.at.returns-in_err-accept_anew-clause-promises g c).After-accept_anew in
       let at = span g card in
       let p = premises g at room o origin vehicle done s supply v r stay may number given values in
@@ -1014,7 +1014,7 @@ returns-in_err-accept_anew-clause-promises g c = record {
       subst (λ (f : Bool). RingsWoken f (log_of (out g at)) o done s spans (one g card) (log_of (out1 g card)) (dev1 g card)) (fails-one g c ∙ failed-one g c)
       (rings-then g at p q (is_err c.accept_anew.result) (one g card) (out1 g card) (dev1 g card) (ringed-one g card p time q) (first g card p time).1 (power-one g card) (unfound-one g card) (λ well_one. ((first g card p time).0 well_one).odometer ∙ sym (woke g at p).1.odometer));
   cards =
-      λ room o origin done s supply v r stay may number given speed_is values evented limit vehicle shown time.
+      λ o origin done s supply v r stay may number given speed_is values evented limit vehicle shown time.
       let card = (goal.at.returns-in_err-accept_anew-clause-promises g c).After-accept_anew in
       let at = span g card in
       let p = premises g at room o origin vehicle done s supply v r stay may number given values in
@@ -1023,7 +1023,7 @@ returns-in_err-accept_anew-clause-promises g c = record {
         subst (λ (f : Bool). WakesOn f o done s (woke g at p).0.run.log (log_of (out1 g card)) (dev1 g card)) (fails-one g c) (cards-one g card p time speed_is vehicle shown),
       );
   stands =
-      λ room o origin done s supply v r stay may number given speed_is values evented limit vehicle time.
+      λ o origin done s supply v r stay may number given speed_is values evented limit vehicle time.
       let card = (goal.at.returns-in_err-accept_anew-clause-promises g c).After-accept_anew in
       stands-one g card (premises g (span g card) room o origin vehicle done s supply v r stay may number given values) time speed_is vehicle;
 }
@@ -1061,14 +1061,14 @@ returns-in_err-accept_anew-2-clause-resumed g c = record {
 }
 
 pub returns-in_err-accept_anew-2-clause-promises : goal.returns-in_err-accept_anew-2-clause-promises
-returns-in_err-accept_anew-2-clause-promises g c = record {
+returns-in_err-accept_anew-2-clause-promises g c = λ room. record {
   recorded =
-      λ room o origin vehicle done s supply v r stay may number given values time.
+      λ o origin vehicle done s supply v r stay may number given values time.
       let cards = (goal.at.returns-in_err-accept_anew-2-clause-promises g c).After-accept_anew-2 in
       let p = premises g (start g cards) room o origin vehicle done s supply v r stay may number given values in
       subst (λ (f : Bool). GoesOnOrCut f o done s (In 0) [] (two g cards) (out2 g cards) (dev2 g cards)) (fails-two g c ∙ failed-two g c) (second g cards p time);
   evented =
-      λ room o origin vehicle done s supply v r stay may number given speed_is values evented limit time.
+      λ o origin vehicle done s supply v r stay may number given speed_is values evented limit time.
       let cards = (goal.at.returns-in_err-accept_anew-2-clause-promises g c).After-accept_anew-2 in
       let at = start g cards in
       let p = premises g at room o origin vehicle done s supply v r stay may number given values in
@@ -1077,13 +1077,13 @@ returns-in_err-accept_anew-2-clause-promises g c = record {
       subst (λ (f : Bool). EventsWoken f (log_of (out g at)) o done s (two g cards) (out2 g cards) (dev2 g cards)) (failed-two g c)
       (woken-fails o done s (woke g at p).0.run Waking (two g cards) (out2 g cards) (dev2 g cards) (log_of (out g at)) cut (began-unfound-two g cards p time) (began-next-two g cards p time) (limit-two g cards p time e));
   ringed =
-      λ room o origin vehicle done s supply v r stay may number given values spans seats ringed counted off time.
+      λ o origin vehicle done s supply v r stay may number given values spans seats ringed counted off time.
       let cards = (goal.at.returns-in_err-accept_anew-2-clause-promises g c).After-accept_anew-2 in
       let p = premises g (start g cards) room o origin vehicle done s supply v r stay may number given values in
       let q : WithRings g (start g cards) p = record { spans = spans; seats = seats; ringed = ringed; counted = counted; off = off } in
       subst (λ (f : Bool). RingsWoken f (log_of (out g (start g cards))) o done s spans (two g cards) (log_of (out2 g cards)) (dev2 g cards)) (fails-two g c ∙ failed-two g c) (rings-two g cards p time q);
   cards =
-      λ room o origin done s supply v r stay may number given speed_is values evented limit vehicle shown time.
+      λ o origin done s supply v r stay may number given speed_is values evented limit vehicle shown time.
       let cards = (goal.at.returns-in_err-accept_anew-2-clause-promises g c).After-accept_anew-2 in
       let at = start g cards in
       let p = premises g at room o origin vehicle done s supply v r stay may number given values in
@@ -1092,7 +1092,7 @@ returns-in_err-accept_anew-2-clause-promises g c = record {
         subst (λ (f : Bool). WakesOn f o done s (woke g at p).0.run.log (log_of (out2 g cards)) (dev2 g cards)) (fails-two g c) (cards-two g cards p time speed_is vehicle shown),
       );
   stands =
-      λ room o origin done s supply v r stay may number given speed_is values evented limit vehicle time.
+      λ o origin done s supply v r stay may number given speed_is values evented limit vehicle time.
       let cards = (goal.at.returns-in_err-accept_anew-2-clause-promises g c).After-accept_anew-2 in
       stands-two g cards (premises g (start g cards) room o origin vehicle done s supply v r stay may number given values) time speed_is vehicle;
 }
@@ -1128,14 +1128,14 @@ returns-then-is_first-clause-resumed g c = record {
 }
 
 pub returns-then-is_first-clause-promises : goal.returns-then-is_first-clause-promises
-returns-then-is_first-clause-promises g c = record {
+returns-then-is_first-clause-promises g c = λ room. record {
   recorded =
-      λ room o origin vehicle done s supply v r stay may number given values time.
+      λ o origin vehicle done s supply v r stay may number given values time.
       let cards = (goal.at.returns-then-is_first-clause-promises g c).After-accept_anew-2 in
       let p = premises g (start g cards) room o origin vehicle done s supply v r stay may number given values in
       subst (λ (f : Bool). GoesOnOrCut f o done s (In 0) [] (two g cards) (out2 g cards) (dev2 g cards)) (fine-first g c) (second g cards p time);
   evented =
-      λ room o origin vehicle done s supply v r stay may number given speed_is values evented limit time.
+      λ o origin vehicle done s supply v r stay may number given speed_is values evented limit time.
       let cards = (goal.at.returns-then-is_first-clause-promises g c).After-accept_anew-2 in
       let at = start g cards in
       let well_two = fine-first g c in
@@ -1149,13 +1149,13 @@ returns-then-is_first-clause-promises g c = record {
       woken-on o done s (within g cards p time well_two).within.b (two g cards) (out2 g cards) (dev2 g cards) (empty g cards p time well_two e) (within g cards p time well_two) refl noted_so (limit-two g cards p time e)
       (begun-watched o c.args.waking.rule (run g at) (mid g at) (two g cards) c.mend.new.journal c.begin_span.ensures.begun limit ((same-two g cards).1 ∙ (same-one g (driver g cards)).1)) (log_of (out g at)) (began-here g cards p time well_two);
   ringed =
-      λ room o origin vehicle done s supply v r stay may number given values spans seats ringed counted off time.
+      λ o origin vehicle done s supply v r stay may number given values spans seats ringed counted off time.
       let cards = (goal.at.returns-then-is_first-clause-promises g c).After-accept_anew-2 in
       let p = premises g (start g cards) room o origin vehicle done s supply v r stay may number given values in
       let q : WithRings g (start g cards) p = record { spans = spans; seats = seats; ringed = ringed; counted = counted; off = off } in
       subst (λ (f : Bool). RingsWoken f (log_of (out g (start g cards))) o done s spans (two g cards) (log_of (out2 g cards)) (dev2 g cards)) (fine-first g c) (rings-two g cards p time q);
   cards =
-      λ room o origin done s supply v r stay may number given speed_is values evented limit vehicle shown time.
+      λ o origin done s supply v r stay may number given speed_is values evented limit vehicle shown time.
       let cards = (goal.at.returns-then-is_first-clause-promises g c).After-accept_anew-2 in
       let at = start g cards in
       let well_two = fine-first g c in
@@ -1169,7 +1169,7 @@ returns-then-is_first-clause-promises g c = record {
       (none-list o done s supply v (dev0 g at) (mended g at) r may number given c.args.waking.journal.kept evented (quiet g at) (is g at p).2 (woken g at p e).2 x.within.b.run.log (log-here g cards p time well_two) untold) (vehicle-two g cards o vehicle) (cards-here g cards p time well_two speed_is vehicle shown)
       false (two g cards) (out2 g cards).breaks NoGap (refl, refl, refl) (stood-self o (dev2 g cards)) (left-itself o (dev2 g cards)) (λ bad. none-fails bad) (none-noted (two g cards).keeper.cabin.cards (two g cards).keeper.memory.registration (dev2 g cards)));
   stands =
-      λ room o origin done s supply v r stay may number given speed_is values evented limit vehicle time.
+      λ o origin done s supply v r stay may number given speed_is values evented limit vehicle time.
       let cards = (goal.at.returns-then-is_first-clause-promises g c).After-accept_anew-2 in
       stands-two g cards (premises g (start g cards) room o origin vehicle done s supply v r stay may number given values) time speed_is vehicle;
 }
@@ -1207,13 +1207,13 @@ returns-clause-resumed g c = record {
 }
 
 pub returns-clause-promises : goal.returns-clause-promises
-returns-clause-promises g c = record {
+returns-clause-promises g c = λ room. record {
   recorded =
-      λ room o origin vehicle done s supply v r stay may number given values time.
+      λ o origin vehicle done s supply v r stay may number given values time.
       let p = premises g (begin g c) room o origin vehicle done s supply v r stay may number given values in
       goes-plain (is_err c.note_gap.result) o done s (In 0) [] (new g c) (out3 g c) (dev3 g c) (here g c p time).within.b (goes g c p time);
   evented =
-      λ room o origin vehicle done s supply v r stay may number given speed_is values evented limit time.
+      λ o origin vehicle done s supply v r stay may number given speed_is values evented limit time.
       let cards = both g c in
       let at = begin g c in
       let p = premises g at room o origin vehicle done s supply v r stay may number given values in
@@ -1232,7 +1232,7 @@ returns-clause-promises g c = record {
       (ap (λ (m : UnitFacts). m.limit) (stays g c) ∙ limit-two g cards p past e)
       (begun-watched o c.args.waking.rule (run g at) (mid g at) (new g c) c.mend.new.journal c.begin_span.ensures.begun limit (ap (λ (r : Run). r.watch) c.note_gap.ensures.noted.run ∙ (same-two g cards).1 ∙ (same-one g (driver g cards)).1)) (log_of (out g at)) (began-here g cards p past (fine g c));
   ringed =
-      λ room o origin vehicle done s supply v r stay may number given values spans seats ringed counted off time.
+      λ o origin vehicle done s supply v r stay may number given values spans seats ringed counted off time.
       let cards = both g c in
       let at = begin g c in
       let p = premises g at room o origin vehicle done s supply v r stay may number given values in
@@ -1248,7 +1248,7 @@ returns-clause-promises g c = record {
       (ap (λ (r : Run). r.power) c.note_gap.ensures.noted.run ∙ power-two g cards) (ap (λ (r : Run). r.unfound) c.note_gap.ensures.noted.run ∙ unfound-two g cards)
       (λ well_three. goes-odometer (is_err c.note_gap.result) o done s (In 0) [] (new g c) (out3 g c) (dev3 g c) (here g c p time).within.b (goes g c p time) well_three ∙ ap (λ (b : Beginning). odometer_after (odometer_at o.recording.unit) b.travel.before) began_so ∙ sym (woke g at p).1.odometer);
   cards =
-      λ room o origin done s supply v r stay may number given speed_is values evented limit vehicle shown time.
+      λ o origin done s supply v r stay may number given speed_is values evented limit vehicle shown time.
       let cards = both g c in
       let at = begin g c in
       let p = premises g at room o origin vehicle done s supply v r stay may number given values in
@@ -1266,7 +1266,7 @@ returns-clause-promises g c = record {
       (stood-later o done s (In 0) [] None [] (values_of (two g cards) (out2 g cards)) (dev2 g cards) x.within (dev3 g c) c.note_gap.ensures.goes.later) (c.note_gap.ensures.leaves.beside o done s (out2 g cards) x (comes g cards p past (fine g c))).0
       (λ fails. (subst (λ (f : Bool). GoesOnOrFails f o done s (In 0) [] (new g c) (out3 g c) (dev3 g c) x.within.b) fails (goes g c p time)).within.moment.up_to.uncut) c.note_gap.ensures.leaves.card_events);
   stands =
-      λ room o origin done s supply v r stay may number given speed_is values evented limit vehicle time.
+      λ o origin done s supply v r stay may number given speed_is values evented limit vehicle time.
       let cards = both g c in
       let at = begin g c in
       let p = premises g at room o origin vehicle done s supply v r stay may number given values in

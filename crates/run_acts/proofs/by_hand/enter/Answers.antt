@@ -9,7 +9,8 @@ use Rattle.run_crew.specs.declared.cabin.Cabin.{Cabin}
 use Rattle.run_crew.specs.Cards.{session_of}
 use Rattle.run_crew.specs.Cabin.{CabinIsSound}
 use Rattle.run_acts.specs.Power.{with_cabin}
-use Rattle.run_acts.specs.ByHand.{stop_in, session_at, entry_from, cards_holding, cabin_holding}
+use Rattle.run_minutes.specs.Keeping.{session_at}
+use Rattle.run_acts.specs.ByHand.{stop_in, entry_from, cards_holding, cabin_holding}
 use Rattle.run_acts.proofs.ByHand.{taken-there, room-there, holding-stands}
 use Rattle.run_acts.proofs.OneCard.{none-there}
 use Rattle.run_acts.proofs.by_hand.enter.Goals.{After-hold, In_default}
@@ -21,7 +22,7 @@ hold-requires c =
     let there : card_in (seat_in run.keeper.cabin.slots.seats c.args.slot) ≡ Some c.in-Some.card = cc in
     record {
       room = room-there (session_of run.keeper.cabin.cards c.in-Some.card) (minute_on run.next c.args.minute)
-          (ap (λ (o : Option Card). stop_in (session_at o run.keeper.cabin.cards) (minute_on run.next c.args.minute)) (sym there) ∙ c.requires.taken);
+          (ap (λ (o : Option Card). stop_in (session_at run.keeper.cabin.cards o) (minute_on run.next c.args.minute)) (sym there) ∙ c.requires.taken);
     }
 
 -- ---- no card is in the slot
@@ -68,4 +69,4 @@ pub returns-clause-stands : goal.returns-clause-stands
 returns-clause-stands c = λ from leaving h.
     let run = c.args.run.now in
     subst (λ (b : Cabin). CabinIsSound from leaving b) (sym (cabin-is c))
-    (holding-stands (entry_now c) run.keeper.cabin (there c) from leaving (taken-there (session_at (there c) run.keeper.cabin.cards) (minute_on run.next c.args.minute) c.requires.taken) h)
+    (holding-stands (entry_now c) run.keeper.cabin (there c) from leaving (taken-there (session_at run.keeper.cabin.cards (there c)) (minute_on run.next c.args.minute) c.requires.taken) h)

@@ -68,14 +68,14 @@ returns-clause-kept g c =
       kept = record {
         only = refl;
         outcome = c.keep_all.ensures.only;
-        how = inr (k.kept, (w.ended, subst (λ (crew : Crew). IsFed old.watch c.turn.new.self old.next c.args.turned.stretch.n c.args.turned.stretch.speed crew w.ended) c.crew-crew.ensures w.fed));
+        how = inr (k.kept, (w.ended, subst (λ (crew : Crew). IsFed old.watch c.turn.new.self old.next c.args.turned.stretch.seconds c.args.turned.stretch.speed crew w.ended) c.crew-crew.ensures w.fed));
       };
       reach = b.0;
       is = b.1;
       books = b.2;
-      noted = keeping-then c.args.turned.decided.now c.args.turned.stretch.n c.args.turned.stretch.speed c.args.turned.at failed old new c.args.outcome.now told U V W k.reach k.is (g.met.M.Medium.coherent c.keep_all.new.unit) (g.met.M.Medium.coherent c.turn.new.unit) k.noted
-          (subst (λ (crew : Crew). IsWatchedOn failed old.watch c.turn.new.self old.next c.args.turned.stretch.n c.args.turned.stretch.speed crew V W) c.crew-crew.ensures w) c.turn.ensures.cause.works;
-      block = brings-watched c.args.turned.stretch.n c.args.turned.stretch.speed failed old new _ U V W c.keep_all.ensures.goes.speeds c.keep_all.ensures.goes.keeping.unit_tells c.turn.ensures.watched;
+      noted = keeping-then c.args.turned.decided.now c.args.turned.stretch.seconds c.args.turned.stretch.speed c.args.turned.at failed old new c.args.outcome.now told U V W k.reach k.is (g.met.M.Medium.coherent c.keep_all.new.unit) (g.met.M.Medium.coherent c.turn.new.unit) k.noted
+          (subst (λ (crew : Crew). IsWatchedOn failed old.watch c.turn.new.self old.next c.args.turned.stretch.seconds c.args.turned.stretch.speed crew V W) c.crew-crew.ensures w) c.turn.ensures.cause.works;
+      block = brings-watched c.args.turned.stretch.seconds c.args.turned.stretch.speed failed old new _ U V W c.keep_all.ensures.goes.speeds c.keep_all.ensures.goes.keeping.unit_tells c.turn.ensures.watched;
       last = λ well. k.last refl;
       marks = k.marks;
       stands = k.stands;
@@ -97,13 +97,13 @@ returns-in_err-keep_all-clause-kept g c =
     let d = devices U (g.C.Chip.state c.args.card_a.now) (g.D.Chip.state c.args.card_b.now) in
     let e = devices V (g.C.Chip.state c.keep_all.new.card_a) (g.D.Chip.state c.keep_all.new.card_b) in
     let b = turn-cut c.args.turned.decided.now c.args.turned.at (told_of old out) (told_of run told) d e k.reach k.is k.books in
-    subst (λ (f : Bool). KeepsTurn c.args.turned.decided.now c.args.turned.stretch.n c.args.turned.stretch.speed c.args.turned.at f old run out told d e) failed (record {
+    subst (λ (f : Bool). KeepsTurn c.args.turned.decided.now c.args.turned.stretch.seconds c.args.turned.stretch.speed c.args.turned.at f old run out told d e) failed (record {
       kept = record { only = refl; outcome = c.keep_all.ensures.only; how = inl (refl, k.kept, refl) };
       reach = b.0;
       is = b.1;
       books = b.2;
-      noted = keeping-cut c.args.turned.decided.now c.args.turned.stretch.n c.args.turned.stretch.speed c.args.turned.at old run out told U V k.reach k.is refl k.noted;
-      block = brings-kept c.args.turned.stretch.n c.args.turned.stretch.speed old run U V c.requires.watch.some c.requires.watch.within c.keep_all.ensures.goes.speeds;
+      noted = keeping-cut c.args.turned.decided.now c.args.turned.stretch.seconds c.args.turned.stretch.speed c.args.turned.at old run out told U V k.reach k.is refl k.noted;
+      block = brings-kept c.args.turned.stretch.seconds c.args.turned.stretch.speed old run U V c.requires.watch.some c.requires.watch.within c.keep_all.ensures.goes.speeds;
       last = λ well. absurd (cc);
       marks = k.marks;
       stands = k.stands;

@@ -1,7 +1,5 @@
-use Rattle.std.proofs.Common.{◌≡◌, ◌<◌, ℕ, Option, Some, IfSome, sym, subst}
-use Rattle.tach_media.specs.Medium.{State}
+use Rattle.std.proofs.Common.{ℕ, Option, Some, IfSome, subst}
 use Rattle.gated_ring.specs.Ring.{PointsInside, IsAtPointer}
-use Rattle.speed_model.specs.declared.block.TheConstants.{BLOCK_SLOTS}
 use Rattle.speed_model.specs.Stored.{speed_ring}
 use Rattle.run_events.specs.Blocks.{KnowsNewest}
 use Rattle.run_events.proofs.Newest.{told-newest, ok-then}

@@ -1,4 +1,5 @@
-use Rattle.std.proofs.Common.{◌≡◌, refl}
+use Rattle.std.proofs.lemmas.Grind.{common_steps}
+use Rattle.std.proofs.Common.{◌≡◌, refl, arith, rules}
 use Rattle.std.proofs.lemmas.Result.{on_ok_weaker, IfErr-weaker}
 use Rattle.trace_model.specs.declared.Card.{Card}
 use Rattle.trace_model.specs.declared.Card.TheVariants.{A, B}
@@ -58,5 +59,5 @@ returns-clause-refusal g c = record {
       (g.met.U.Medium.coherent c.args.unit.now) (g.met.U.Medium.coherent c.run_trace.new.unit) (λ x y z begins time few. c.run_trace.ensures.fault x y z (record { begins = begins; time = time; few = few }));
 }
 
-pub returns-clause-most : goal.returns-clause-most
-returns-clause-most g c = c.run_trace.ensures.goes.most.unit
+pub returns-clause-goes : goal.returns-clause-goes
+returns-clause-goes g c = record { most = c.run_trace.ensures.goes.most.unit; unit = first_of (search rules, grind (arith, common_steps)) }

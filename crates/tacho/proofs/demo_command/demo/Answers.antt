@@ -1,3 +1,4 @@
+use Rattle.std.proofs.lemmas.Result.{err_from_is_err_and}
 use Rattle.std.proofs.Common.{◌≡◌, ◌∙◌, ap, refl, sym, subst, arith}
 use Rattle.std.specs.Prelude.{Err, IfErr}
 use Rattle.run_opening.proofs.AsItWas.{as-it-is}
@@ -8,8 +9,14 @@ use Rattle.tacho.proofs.Recordings.{reserved-empty}
 use Rattle.tacho.proofs.Demo.{items-few, demo-memory, demo-refused, demo-unread, demo-done, unread-causes, anew-causes, printed-causes, as-demo, writes-demo, first-of}
 use Rattle.tacho.proofs.demo_command.demo.Goals as goal
 
-pub run_anew-requires-clause-image : goal.run_anew-requires-clause-image
-run_anew-requires-clause-image g c = c.as_slice.ensures.len ∙ c.in-Ok-blank_card.ensures.size ∙ largest-size
+pub run_anew-requires-clause-may : goal.run_anew-requires-clause-may
+run_anew-requires-clause-may g c = record {
+  unit = c.requires.unit;
+  image = c.as_slice.ensures.len ∙ c.in_ok-image.ensures.size ∙ largest-size;
+  size_a = c.requires.card_a.sized;
+  behind_a = c.requires.card_a.behind;
+  size_b = (let sized = c.requires.card_b.sized in omega (arith, sized));
+}
 
 pub returns-in-Err-clause-ends : goal.returns-in-Err-clause-ends
 returns-in-Err-clause-ends g c =
@@ -17,26 +24,26 @@ returns-in-Err-clause-ends g c =
     rw c.refusal_anew.ensures
     (demo-refused c.args.seed _ _ c.run_anew.new.outcome c.in-Err.fault refl
     (λ b starts.
-    let kept = e.nothing b starts.may starts.clocks (rw c.in-Ok.ensures.items (items-few c.args.seed)) in
-    (subst IsEmpty (sym kept.0) (reserved-empty c.in-Ok.trace.items c.in-Ok-reserve.reserved c.in-Ok-reserve.ensures), kept.1))
+    let kept = e.kept b (record { may = starts.may; time = starts.clocks; few = rw c.in_ok-trace.ensures.items (items-few c.args.seed) }) in
+    (subst IsEmpty (sym kept.nothing) (reserved-empty c.in_ok-trace.trace.items c.in_ok-reserved.reserved c.in_ok-reserved.ensures), kept.same_b))
     e.failed
-    (λ b starts may. e.kept b starts.may starts.clocks (rw c.in-Ok.ensures.items (items-few c.args.seed)) (rw (c.as_slice.ensures.value ∙ c.in-Ok-blank_card.ensures.image, c.in-Ok.ensures.start) may))
-    (writes-demo c.args.seed c.in-Ok.trace.start c.in-Ok.trace.items _ _ _ c.in-Ok.ensures.start c.in-Ok.ensures.items e.most))
+    (λ b starts may. (e.kept b (record { may = starts.may; time = starts.clocks; few = rw c.in_ok-trace.ensures.items (items-few c.args.seed) })).failure (rw (c.as_slice.ensures.value ∙ c.in_ok-image.ensures.image, c.in_ok-trace.ensures.start) may))
+    (writes-demo c.args.seed c.in_ok-trace.trace.start c.in_ok-trace.trace.items _ _ _ c.in_ok-trace.ensures.start c.in_ok-trace.ensures.items e.goes.most))
 
 pub returns-in-Err-measure-clause-ends : goal.returns-in-Err-measure-clause-ends
 returns-in-Err-measure-clause-ends g c =
-    let e = c.in_default-run_anew.ensures in
+    let e = c.in_default.ensures in
     let f = c.in-Err-measure.ensures in
     rw c.refusal_of_file.ensures
     (demo-unread c.args.seed _ _ c.run_anew.new.outcome (g.U.Medium.state c.run_anew.new.unit) c.in-Err-measure.fault refl f.unit
-    (λ b may time. as-demo c.args.seed _ c.as_slice.result.now b c.in-Ok.trace.start c.in-Ok.trace.items c.run_anew.new.outcome _ _ (c.as_slice.ensures.value ∙ c.in-Ok-blank_card.ensures.image) c.in-Ok.ensures.start c.in-Ok.ensures.items
-    (e.recorded b may time (rw c.in-Ok.ensures.items (items-few c.args.seed))))
-    (λ is. f.changed (ap Err is)) e.faults (g.met.U.Medium.coherent c.measure.new.unit) f.bad
-    (writes-demo c.args.seed c.in-Ok.trace.start c.in-Ok.trace.items _ _ _ c.in-Ok.ensures.start c.in-Ok.ensures.items e.most))
+    (λ b may time. as-demo c.args.seed _ c.as_slice.result.now b c.in_ok-trace.trace.start c.in_ok-trace.trace.items c.run_anew.new.outcome _ _ (c.as_slice.ensures.value ∙ c.in_ok-image.ensures.image) c.in_ok-trace.ensures.start c.in_ok-trace.ensures.items
+    (e.recorded b (record { may = may; time = time; few = rw c.in_ok-trace.ensures.items (items-few c.args.seed) })))
+    (λ is. f.changed (ap Err is)) e.goes.faults (g.met.U.Medium.coherent c.measure.new.unit) f.bad
+    (writes-demo c.args.seed c.in_ok-trace.trace.start c.in_ok-trace.trace.items _ _ _ c.in_ok-trace.ensures.start c.in_ok-trace.ensures.items e.goes.most))
 
 pub returns-in-Err-measure-clause-causes : goal.returns-in-Err-measure-clause-causes
 returns-in-Err-measure-clause-causes g c =
-    rw c.refusal_of_file.ensures (unread-causes _ _ (g.U.Medium.state c.run_anew.new.unit) c.in-Err-measure.fault c.in_default-run_anew.ensures.faults c.in-Err-measure.ensures.unit (omega arith) (omega arith))
+    rw c.refusal_of_file.ensures (unread-causes _ _ (g.U.Medium.state c.run_anew.new.unit) c.in-Err-measure.fault c.in_default.ensures.goes.faults c.in-Err-measure.ensures.unit (omega arith) (omega arith))
 
 pub returns-in-Err-clause-causes : goal.returns-in-Err-clause-causes
 returns-in-Err-clause-causes g c = rw c.refusal_anew.ensures (anew-causes _ _ c.in-Err.fault c.in-Err.ensures.failed (omega arith) (omega arith))
@@ -48,27 +55,37 @@ returns-clause-causes g c =
 
 pub returns-clause-ends : goal.returns-clause-ends
 returns-clause-ends g c =
-    let e = c.in_default-run_anew.ensures in
-    let f = c.in-Ok-measure.ensures in
-    demo-done c.args.seed _ _ c.run_anew.new.outcome (g.U.Medium.state c.run_anew.new.unit) c.in-Ok-measure.size c.print_demo.result f.unit
-    (λ b may time. as-demo c.args.seed _ c.as_slice.result.now b c.in-Ok.trace.start c.in-Ok.trace.items c.run_anew.new.outcome _ _ (c.as_slice.ensures.value ∙ c.in-Ok-blank_card.ensures.image) c.in-Ok.ensures.start c.in-Ok.ensures.items
-    (e.recorded b may time (rw c.in-Ok.ensures.items (items-few c.args.seed))))
+    let e = c.in_default.ensures in
+    let f = c.in-Ok.ensures in
+    demo-done c.args.seed _ _ c.run_anew.new.outcome (g.U.Medium.state c.run_anew.new.unit) c.in-Ok.size c.print_demo.result f.unit
+    (λ b may time. as-demo c.args.seed _ c.as_slice.result.now b c.in_ok-trace.trace.start c.in_ok-trace.trace.items c.run_anew.new.outcome _ _ (c.as_slice.ensures.value ∙ c.in_ok-image.ensures.image) c.in_ok-trace.ensures.start c.in_ok-trace.ensures.items
+    (e.recorded b (record { may = may; time = time; few = rw c.in_ok-trace.ensures.items (items-few c.args.seed) })))
     f.measured c.print_demo.ensures.ok c.print_demo.ensures.err c.print_demo.ensures.cause
-    (writes-demo c.args.seed c.in-Ok.trace.start c.in-Ok.trace.items _ _ _ c.in-Ok.ensures.start c.in-Ok.ensures.items e.most)
+    (writes-demo c.args.seed c.in_ok-trace.trace.start c.in_ok-trace.trace.items _ _ _ c.in_ok-trace.ensures.start c.in_ok-trace.ensures.items e.goes.most)
 
 -- ---- there was no memory
 
-pub returns-in_default-clause-ends : goal.returns-in_default-clause-ends
-returns-in_default-clause-ends g c = demo-memory c.args.seed _ _ c.args.outcome.now refl c.requires.empty (as-it-is (g.C.Chip.state c.args.card_b.now)) (record { unit = omega arith; card_a = omega arith; card_b = omega arith })
+pub returns-in_err-trace-clause-ends : goal.returns-in_err-trace-clause-ends
+returns-in_err-trace-clause-ends g c =
+    let p = err_from_is_err_and c.from_residual.result c.from_residual.ensures.1 in
+    rw (p.1, p.2) (demo-memory c.args.seed _ _ c.args.outcome.now refl c.requires.empty (as-it-is (g.C.Chip.state c.args.card_b.now)) (record { unit = omega arith; card_a = omega arith; card_b = omega arith }))
 
-pub returns-in_default-reserve-clause-ends : goal.returns-in_default-reserve-clause-ends
-returns-in_default-reserve-clause-ends g c = demo-memory c.args.seed _ _ c.args.outcome.now refl c.requires.empty (as-it-is (g.C.Chip.state c.args.card_b.now)) (record { unit = omega arith; card_a = omega arith; card_b = omega arith })
+pub returns-in_err-reserved-clause-ends : goal.returns-in_err-reserved-clause-ends
+returns-in_err-reserved-clause-ends g c =
+    let p = err_from_is_err_and c.from_residual-in_err-reserved.result c.from_residual-in_err-reserved.ensures.1 in
+    rw (p.1, p.2) (demo-memory c.args.seed _ _ c.args.outcome.now refl c.requires.empty (as-it-is (g.C.Chip.state c.args.card_b.now)) (record { unit = omega arith; card_a = omega arith; card_b = omega arith }))
 
-pub returns-in_default-blank_card-clause-ends : goal.returns-in_default-blank_card-clause-ends
-returns-in_default-blank_card-clause-ends g c = demo-memory c.args.seed _ _ c.args.outcome.now refl c.requires.empty (as-it-is (g.C.Chip.state c.args.card_b.now)) (record { unit = omega arith; card_a = omega arith; card_b = omega arith })
+pub returns-in_err-image-clause-ends : goal.returns-in_err-image-clause-ends
+returns-in_err-image-clause-ends g c =
+    let p = err_from_is_err_and c.from_residual-in_err-image.result c.from_residual-in_err-image.ensures.1 in
+    rw (p.1, p.2) (demo-memory c.args.seed _ _ c.args.outcome.now refl c.requires.empty (as-it-is (g.C.Chip.state c.args.card_b.now)) (record { unit = omega arith; card_a = omega arith; card_b = omega arith }))
 
-pub returns-then-is_err-clause-ends : goal.returns-then-is_err-clause-ends
-returns-then-is_err-clause-ends g c = demo-memory c.args.seed _ _ c.args.outcome.now refl c.requires.empty (as-it-is (g.C.Chip.state c.args.card_b.now)) (record { unit = omega arith; card_a = omega arith; card_b = omega arith })
+pub returns-in_err-reserve-clause-ends : goal.returns-in_err-reserve-clause-ends
+returns-in_err-reserve-clause-ends g c =
+    let p = err_from_is_err_and c.from_residual-in_err-reserve.result c.from_residual-in_err-reserve.ensures.1 in
+    rw (p.1, p.2) (demo-memory c.args.seed _ _ c.args.outcome.now refl c.requires.empty (as-it-is (g.C.Chip.state c.args.card_b.now)) (record { unit = omega arith; card_a = omega arith; card_b = omega arith }))
 
-pub returns-in_default-with_capacity-clause-ends : goal.returns-in_default-with_capacity-clause-ends
-returns-in_default-with_capacity-clause-ends g c = demo-memory c.args.seed _ _ c.args.outcome.now refl c.requires.empty (as-it-is (g.C.Chip.state c.args.card_b.now)) (record { unit = omega arith; card_a = omega arith; card_b = omega arith })
+pub returns-in_err-room-clause-ends : goal.returns-in_err-room-clause-ends
+returns-in_err-room-clause-ends g c =
+    let p = err_from_is_err_and c.from_residual-in_err-room.result c.from_residual-in_err-room.ensures.1 in
+    rw (p.1, p.2) (demo-memory c.args.seed _ _ c.args.outcome.now refl c.requires.empty (as-it-is (g.C.Chip.state c.args.card_b.now)) (record { unit = omega arith; card_a = omega arith; card_b = omega arith }))

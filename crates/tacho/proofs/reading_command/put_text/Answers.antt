@@ -1,30 +1,34 @@
-use Rattle.std.proofs.Common.{◌≡◌, ◌∙◌, refl, sym}
+use Rattle.std.proofs.lemmas.Result.{err_from_is_err_and}
+use Rattle.std.proofs.Common.{◌≡◌, refl}
 use Rattle.tacho.specs.declared.end.Fault.TheVariants.{WriteFault}
+use Rattle.tacho.specs.Outside.{SinkTold}
 use Rattle.tacho.specs.Read.{IsBad}
-use Rattle.tacho.proofs.Formats.{of-ok}
-use Rattle.tacho.proofs.Views.{of-err}
+use Rattle.tacho.proofs.Printed.{reading-put, wrote-cause}
 use Rattle.tacho.proofs.Puts.{not-written, unshown-put}
 use Rattle.tacho.proofs.reading_command.put_text.Goals as goal
 
-pub returns-in-Err-clause-ends : goal.returns-in-Err-clause-ends
-returns-in-Err-clause-ends g c =
-    unshown-put c.args.reading c.args.b.now (g.K.Sink.held c.args.sink.now) (g.K.Sink.held c.args.sink.now) (c.args.sink.now ≡ c.args.sink.now) c.in-Err.fault c.in-Err.ensures.err refl
+pub returns-in_err-text-clause-ends : goal.returns-in_err-text-clause-ends
+returns-in_err-text-clause-ends g c =
+    let p = err_from_is_err_and c.from_residual.result c.from_residual.ensures.1 in
+    rw (p.1, p.2) (unshown-put c.args.reading c.args.b.now (g.K.Sink.held c.args.sink.now) (g.K.Sink.held c.args.sink.now) (c.args.sink.now ≡ c.args.sink.now) c.in_err-text.field-0.0 c.in_err-text.ensures.err refl)
 
-pub returns-then-is_err-clause-ends : goal.returns-then-is_err-clause-ends
-returns-then-is_err-clause-ends g c = (
-  c.as_slice-shown.result.now,
-  rw c.as_slice-shown.ensures.value c.in-Ok.ensures.text,
-  of-err c.put_all.result (sym c.is_err.ensures.value ∙ c.if-is_err.true) c.put_all.ensures.err,
-)
+pub returns-in_err-text-clause-cause : goal.returns-in_err-text-clause-cause
+returns-in_err-text-clause-cause g c = λ is.
+    let p = err_from_is_err_and c.from_residual.result c.from_residual.ensures.1 in
+    let made = p.1 in
+    let same = p.2 in
+    let wrote : c.in_err-text.field-0.0 ≡ WriteFault = cc in
+    absurd (not-written (λ p. IsBad c.args.reading p c.args.b.now) c.in_err-text.field-0.0 c.in_err-text.ensures.err wrote)
 
 pub returns-clause-ends : goal.returns-clause-ends
-returns-clause-ends g c = (
-  c.as_slice-shown.result.now,
-  rw c.as_slice-shown.ensures.value c.in-Ok.ensures.text,
-  of-ok c.put_all.result (sym c.is_err.ensures.value ∙ c.if-is_err.false) c.put_all.ensures.ok,
-)
+returns-clause-ends g c =
+    let before : SinkTold = record { held = g.K.Sink.held c.args.sink.now; faults = g.K.Sink.faults c.args.sink.now } in
+    let after : SinkTold = record { held = g.K.Sink.held c.print_text.new.sink; faults = g.K.Sink.faults c.print_text.new.sink } in
+    reading-put c.args.reading c.args.b.now c.as_slice.result.now before after (c.print_text.new.sink ≡ c.args.sink.now) c.print_text.result
+    (rw c.as_slice.ensures.value c.in_ok-text.ensures.text) c.print_text.ensures
 
-pub returns-in-Err-clause-cause : goal.returns-in-Err-clause-cause
-returns-in-Err-clause-cause g c = λ is.
-    let same : c.in-Err.fault ≡ WriteFault = cc in
-    absurd (not-written (λ p. IsBad c.args.reading p c.args.b.now) c.in-Err.fault c.in-Err.ensures.err same)
+pub returns-clause-cause : goal.returns-clause-cause
+returns-clause-cause g c =
+    let before : SinkTold = record { held = g.K.Sink.held c.args.sink.now; faults = g.K.Sink.faults c.args.sink.now } in
+    let after : SinkTold = record { held = g.K.Sink.held c.print_text.new.sink; faults = g.K.Sink.faults c.print_text.new.sink } in
+    wrote-cause c.as_slice.result.now before after c.print_text.result c.print_text.ensures

@@ -1,3 +1,4 @@
+use Rattle.std.proofs.lemmas.Result.{err_from_is_err_and}
 use Rattle.std.proofs.Common.{◌≡◌, ◌∙◌, ℕ, List, length, take, get_or, ap, subst, arith}
 use Rattle.std.proofs.Math.Seq.{take-length}
 use Rattle.std.proofs.KnownBytes.{Appends-nil}
@@ -18,18 +19,24 @@ put_piece-requires g c = c.requires c.loop-piece.piece-index no_piece c.loop-pie
 
 pub loop-piece-preserved : goal.loop-piece-preserved
 loop-piece-preserved g c = record {
-  written = piece_put c.args.b.now c.args.pieces.now c.loop-piece.piece-index c.loop-piece-test.true (g.K.Sink.held c.args.sink.now) (g.K.Sink.held c.loop-piece.sink) (g.K.Sink.held c.put_piece.new.sink) c.loop-piece.invariant.written c.in-Ok.ensures.writes;
+  written = piece_put c.args.b.now c.args.pieces.now c.loop-piece.piece-index c.loop-piece-test.true (g.K.Sink.held c.args.sink.now) (g.K.Sink.held c.loop-piece.sink) (g.K.Sink.held c.put_piece.new.sink) c.loop-piece.invariant.written c.in_ok-put_piece.ensures.writes;
   counts = omega (arith, c.loop-piece.invariant.counts, c.put_piece.ensures.counts);
 }
 
-pub returns-in-Err-clause-writes : goal.returns-in-Err-clause-writes
-returns-in-Err-clause-writes g c = (
-  piece_cut c.args.b.now c.args.pieces.now c.loop-piece.piece-index c.loop-piece-test.true (g.K.Sink.held c.args.sink.now) (g.K.Sink.held c.loop-piece.sink) (g.K.Sink.held c.put_piece.new.sink) c.loop-piece.invariant.written c.in-Err.ensures.writes.0,
-  c.in-Err.ensures.writes.1,
+pub returns-in_err-put_piece-clause-writes : goal.returns-in_err-put_piece-clause-writes
+returns-in_err-put_piece-clause-writes g c =
+    let p = err_from_is_err_and c.from_residual.result c.from_residual.ensures.1 in
+    rw (p.1, p.2) (
+  piece_cut c.args.b.now c.args.pieces.now c.loop-piece.piece-index c.loop-piece-test.true (g.K.Sink.held c.args.sink.now) (g.K.Sink.held c.loop-piece.sink) (g.K.Sink.held c.put_piece.new.sink) c.loop-piece.invariant.written c.in_err-put_piece.ensures.writes.0,
+  c.in_err-put_piece.ensures.writes.1,
 )
 
-pub returns-in-Err-clause-cause : goal.returns-in-Err-clause-cause
-returns-in-Err-clause-cause g c = λ is.
+pub returns-in_err-put_piece-clause-cause : goal.returns-in_err-put_piece-clause-cause
+returns-in_err-put_piece-clause-cause g c = λ is.
+    let p = err_from_is_err_and c.from_residual.result c.from_residual.ensures.1 in
+    let made = p.1 in
+    let fault = p.2 in
+    let was = c.in_err-put_piece.was in
     let same : c.put_piece.result ≡ Err WriteFault = cc in
     rose-later (g.K.Sink.faults c.args.sink.now) (g.K.Sink.faults c.loop-piece.sink) (g.K.Sink.faults c.put_piece.new.sink) c.loop-piece.invariant.counts (c.put_piece.ensures.cause same)
 

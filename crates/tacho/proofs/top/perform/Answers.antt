@@ -15,19 +15,19 @@ pub returns-in-Minutes-clause-does : goal.returns-in-Minutes-clause-does
 returns-in-Minutes-clause-does g c = record {
   ends =
       let e = c.print_minutes.ensures in
-      rw (c.in-Minutes.is, c.after.ensures)
+      rw (c.in-Minutes.is, c.by_answer.ensures.2)
       (minutes-ends c.in-Minutes.rule _ _ c.print_minutes.result
       (ends-minutes c.in-Minutes.rule _ _ c.print_minutes.result e.prints.printed e.read e.judges.bad_trace e.judges.too_long e.faults.read_fault e.faults.write_fault e.judges.prints e.judges.finds_bad_trace e.judges.finds_too_long e.prints.front e.other)
-      e.faults.read_fault e.faults.write_fault e.faults.counts c.nothing-nothing.result c.nothing-nothing.ensures);
-  spares = search rules;
+      e.faults.read_fault e.faults.write_fault e.faults.counts c.by_answer.ensures.0 c.by_answer.ensures.1);
+  spares = rw (c.in-Minutes.is, c.by_answer.ensures.2) (search rules);
 }
 
 pub returns-in-Serve-clause-does : goal.returns-in-Serve-clause-does
 returns-in-Serve-clause-does g c = record {
   ends =
       let e = c.serve.ensures in
-      rw (c.in-Serve.is, c.of.ensures, c.service_end.ensures)
-      (serve-ends _ _ c.serve.result e.served e.end e.cause e.unit e.counts c.nothing-nothing.result c.nothing-nothing.ensures);
+      rw (c.in-Serve.is, c.by_fault.ensures.2, c.service_end.ensures)
+      (serve-ends _ _ c.serve.result e.served e.end e.cause e.unit e.counts c.by_fault.ensures.0 c.by_fault.ensures.1);
   spares = rw c.in-Serve.is (record { others = (refl, refl); cards = λ is. absurd (cc); before = λ none. absurd none; nothing = λ none. absurd none; unprinted = λ none. absurd none });
 }
 
@@ -35,8 +35,8 @@ pub returns-in-ServeHex-clause-does : goal.returns-in-ServeHex-clause-does
 returns-in-ServeHex-clause-does g c = record {
   ends =
       let e = c.serve_lines.ensures in
-      rw (c.in-ServeHex.is, c.of-in-ServeHex.ensures, c.lines_end.ensures)
-      (serve-hex-ends _ _ c.serve_lines.result e.served e.end e.cause e.unit e.counts c.nothing-nothing.result c.nothing-nothing.ensures);
+      rw (c.in-ServeHex.is, c.by_fault-in-ServeHex.ensures.2, c.lines_end.ensures)
+      (serve-hex-ends _ _ c.serve_lines.result e.served e.end e.cause e.unit e.counts c.by_fault-in-ServeHex.ensures.0 c.by_fault-in-ServeHex.ensures.1);
   spares = rw c.in-ServeHex.is (record { others = (refl, refl); cards = λ is. absurd (cc); before = λ none. absurd none; nothing = λ none. absurd none; unprinted = λ none. absurd none });
 }
 
@@ -44,8 +44,8 @@ pub returns-in-ServePackets-clause-does : goal.returns-in-ServePackets-clause-do
 returns-in-ServePackets-clause-does g c = record {
   ends =
       let e = c.serve_packets.ensures in
-      rw (c.in-ServePackets.is, c.of-in-ServePackets.ensures, c.service_end-in-ServePackets.ensures)
-      (serve-packets-ends _ _ c.serve_packets.result e.served e.end e.cause e.unit e.counts c.nothing-nothing.result c.nothing-nothing.ensures);
+      rw (c.in-ServePackets.is, c.by_fault-in-ServePackets.ensures.2, c.service_end-in-ServePackets.ensures)
+      (serve-packets-ends _ _ c.serve_packets.result e.served e.end e.cause e.unit e.counts c.by_fault-in-ServePackets.ensures.0 c.by_fault-in-ServePackets.ensures.1);
   spares = rw c.in-ServePackets.is (record { others = (refl, refl); cards = λ is. absurd (cc); before = λ none. absurd none; nothing = λ none. absurd none; unprinted = λ none. absurd none });
 }
 
@@ -56,8 +56,8 @@ pub returns-in-DownloadPackets-clause-does : goal.returns-in-DownloadPackets-cla
 returns-in-DownloadPackets-clause-does g c = record {
   ends =
       let e = c.download_packets.ensures in
-      rw (c.in-DownloadPackets.is, c.of-in-DownloadPackets.ensures, c.packets_end.ensures)
-      (download-packets-ends _ _ c.download_packets.result (Rose (g.F.Sink.faults c.args.file.now) (g.F.Sink.faults c.download_packets.new.file)) e.cause e.counts.0 e.counts.1 c.nothing-nothing.result c.nothing-nothing.ensures);
+      rw (c.in-DownloadPackets.is, c.by_fault-in-DownloadPackets.ensures.2, c.packets_end.ensures)
+      (download-packets-ends _ _ c.download_packets.result (Rose (g.F.Sink.faults c.args.file.now) (g.F.Sink.faults c.download_packets.new.file)) e.cause e.counts.0 e.counts.1 c.by_fault-in-DownloadPackets.ensures.0 c.by_fault-in-DownloadPackets.ensures.1);
   spares = rw c.in-DownloadPackets.is (record { others = (refl, refl, refl); cards = λ is. absurd (cc); before = λ none. absurd none; nothing = λ none. absurd none; unprinted = λ none. absurd none });
 }
 
@@ -67,7 +67,7 @@ returns-in-DownloadPackets-clause-in_time g c = rw c.in-DownloadPackets.is c.dow
 pub returns-in-DownloadPackets-clause-file : goal.returns-in-DownloadPackets-clause-file
 returns-in-DownloadPackets-clause-file g c =
     let e = c.download_packets.ensures in
-    rw (c.in-DownloadPackets.is, c.of-in-DownloadPackets.ensures, c.packets_end.ensures)
+    rw (c.in-DownloadPackets.is, c.by_fault-in-DownloadPackets.ensures.2, c.packets_end.ensures)
     (packets-filed c.download_packets.result (g.S.Source.left c.args.source.now) (g.S.Source.left c.download_packets.new.source) _ _ (Rose (g.S.Source.faults c.args.source.now) (g.S.Source.faults c.download_packets.new.source))
     (Rose (g.K.Sink.faults c.args.sink.now) (g.K.Sink.faults c.download_packets.new.link)) (Rose (g.F.Sink.faults c.args.file.now) (g.F.Sink.faults c.download_packets.new.file)) e.loaded e.cause)
 
@@ -81,13 +81,13 @@ pub returns-in-Read-clause-does : goal.returns-in-Read-clause-does
 returns-in-Read-clause-does g c = record {
   ends =
       let e = c.print_reading.ensures in
-      rw (c.in-Read.is, c.after-in-Read.ensures)
+      rw (c.in-Read.is, c.by_answer-in-Read.ensures.2)
       (reading-ends c.in-Read.reading _ _ c.print_reading.result
       (ends-reading (Prints c.in-Read.reading) (IsBad c.in-Read.reading) _ _ c.print_reading.result e.prints.printed e.read e.judges.bad_file e.judges.too_long e.judges.finds_too_long e.faults.read_fault e.faults.write_fault e.prints.front
       (λ bytes told is. kept-or (g.K.Sink.held c.args.sink.now) (g.K.Sink.held c.print_reading.new.sink) (c.print_reading.new.sink ≡ c.args.sink.now) _ (λ same. ap (λ s. g.K.Sink.held s) same) (e.short bytes told is)) e.other)
-      e.faults.read_fault e.faults.write_fault e.faults.counts c.nothing-nothing.result c.nothing-nothing.ensures);
+      e.faults.read_fault e.faults.write_fault e.faults.counts c.by_answer-in-Read.ensures.0 c.by_answer-in-Read.ensures.1);
   spares =
-      rw (c.in-Read.is, c.after-in-Read.ensures)
+      rw (c.in-Read.is, c.by_answer-in-Read.ensures.2)
       (reading-spares c.in-Read.reading c.print_reading.result refl refl refl c.print_reading.ensures.nothing);
 }
 
@@ -95,8 +95,8 @@ pub returns-in-Download-clause-does : goal.returns-in-Download-clause-does
 returns-in-Download-clause-does g c = record {
   ends =
       let e = c.download-done.ensures in
-      rw (c.in-Download.is, c.with.ensures, c.download_end.ensures)
-      (download-ends _ _ c.download-done.new.wire c.download-done.result e.downloaded e.file e.front e.changed e.bad e.nothing e.faults.cause (omega arith) e.faults.counts e.unit c.nothing-nothing.result c.nothing-nothing.ensures);
+      rw (c.in-Download.is, c.by_wire.ensures.2, c.download_end.ensures)
+      (download-ends _ _ c.download-done.new.wire c.download-done.result e.downloaded e.faults.cause (omega arith) e.faults.counts e.unit c.by_wire.ensures.0 c.by_wire.ensures.1);
   spares = rw c.in-Download.is (record { others = (refl, refl, refl); cards = λ is. absurd (cc); before = λ none. absurd none; nothing = λ none. absurd none; unprinted = λ none. absurd none });
 }
 
@@ -104,8 +104,8 @@ pub returns-in-DownloadNoisy-clause-does : goal.returns-in-DownloadNoisy-clause-
 returns-in-DownloadNoisy-clause-does g c = record {
   ends =
       let e = c.download_noisy-done.ensures in
-      rw (c.in-DownloadNoisy.is, c.with-in-DownloadNoisy.ensures, c.download_end-in-DownloadNoisy.ensures)
-      (download-noisy-ends c.in-DownloadNoisy.seed _ _ c.download_noisy-done.new.wire c.download_noisy-done.result e.downloaded e.cause (omega arith) e.counts e.unit c.nothing-nothing.result c.nothing-nothing.ensures);
+      rw (c.in-DownloadNoisy.is, c.by_wire-in-DownloadNoisy.ensures.2, c.download_end-in-DownloadNoisy.ensures)
+      (download-noisy-ends c.in-DownloadNoisy.seed _ _ c.download_noisy-done.new.wire c.download_noisy-done.result e.downloaded e.cause (omega arith) e.counts e.unit c.by_wire-in-DownloadNoisy.ensures.0 c.by_wire-in-DownloadNoisy.ensures.1);
   spares = rw c.in-DownloadNoisy.is (record { others = (refl, refl, refl); cards = λ is. absurd (cc); before = λ none. absurd none; nothing = λ none. absurd none; unprinted = λ none. absurd none });
 }
 
@@ -113,31 +113,31 @@ pub returns-in-Upgrade-clause-does : goal.returns-in-Upgrade-clause-does
 returns-in-Upgrade-clause-does g c = record {
   ends =
       let e = c.upgrade_unit.ensures in
-      rw (c.in-Upgrade.is, c.after-in-Upgrade.ensures)
-      (upgrade-ends _ _ c.nothing-nothing.result c.upgrade_unit.result e.ends c.nothing-nothing.ensures (omega arith) e.counts);
+      rw (c.in-Upgrade.is, c.by_answer-in-Upgrade.ensures.2)
+      (upgrade-ends _ _ c.by_answer-in-Upgrade.ensures.0 c.upgrade_unit.result e.ends c.by_answer-in-Upgrade.ensures.1 (omega arith) e.counts);
   spares =
       let e = c.upgrade_unit.ensures in
-      rw (c.in-Upgrade.is, c.after-in-Upgrade.ensures) (upgrade-spares c.upgrade_unit.result e.ends refl refl refl e.nothing);
+      rw (c.in-Upgrade.is, c.by_answer-in-Upgrade.ensures.2) (upgrade-spares c.upgrade_unit.result e.ends refl refl refl e.nothing);
 }
 
 pub returns-in-State-clause-does : goal.returns-in-State-clause-does
 returns-in-State-clause-does g c = record {
   ends =
       let d = c.devices_state-told.ensures in
-      rw (c.in-State.is, c.after-in-State.ensures)
-      (state-ends c.devices_state-told.result _ _ c.nothing-nothing.result c.print_state.result
+      rw (c.in-State.is, c.by_answer-in-State.ensures.2)
+      (state-ends c.devices_state-told.result _ _ c.by_answer-in-State.ensures.0 c.print_state.result
       (record { unit = d.unit; card_a = d.card_a; card_b = d.card_b; reads_unit = d.reads_unit; reads_a = d.reads_a; reads_b = d.reads_b })
-      c.print_state.ensures.prints c.nothing-nothing.ensures (omega arith) c.print_state.ensures.counts);
+      c.print_state.ensures.prints c.by_answer-in-State.ensures.1 (omega arith) c.print_state.ensures.counts);
   spares = rw c.in-State.is (record { others = refl; cards = λ is. absurd (cc); before = λ none. absurd none; nothing = λ none. absurd none; unprinted = λ none. absurd none });
 }
 
 pub returns-in-Help-clause-does : goal.returns-in-Help-clause-does
 returns-in-Help-clause-does g c = record {
   ends =
-      rw (c.in-Help.is, c.after-in-Help.ensures)
-      (help-ends _ _ c.print_help.result c.print_help.ensures.ends (omega arith) c.print_help.ensures.counts c.nothing-nothing.result c.nothing-nothing.ensures);
+      rw (c.in-Help.is, c.by_answer-in-Help.ensures.2)
+      (help-ends _ _ c.print_help.result c.print_help.ensures.ends (omega arith) c.print_help.ensures.counts c.by_answer-in-Help.ensures.0 c.by_answer-in-Help.ensures.1);
   spares =
-      rw (c.in-Help.is, c.after-in-Help.ensures) (record {
+      rw (c.in-Help.is, c.by_answer-in-Help.ensures.2) (record {
         others = (refl, refl, refl, refl);
         cards = λ is. absurd (cc);
         before = λ first is. (refl, refl, refl);
@@ -149,10 +149,10 @@ returns-in-Help-clause-does g c = record {
 pub returns-in-Version-clause-does : goal.returns-in-Version-clause-does
 returns-in-Version-clause-does g c = record {
   ends =
-      rw (c.in-Version.is, c.after-in-Version.ensures)
-      (version-ends _ _ c.print_version.result c.print_version.ensures.ends (omega arith) c.print_version.ensures.counts c.nothing-nothing.result c.nothing-nothing.ensures);
+      rw (c.in-Version.is, c.by_answer-in-Version.ensures.2)
+      (version-ends _ _ c.print_version.result c.print_version.ensures.ends (omega arith) c.print_version.ensures.counts c.by_answer-in-Version.ensures.0 c.by_answer-in-Version.ensures.1);
   spares =
-      rw (c.in-Version.is, c.after-in-Version.ensures) (record {
+      rw (c.in-Version.is, c.by_answer-in-Version.ensures.2) (record {
         others = (refl, refl, refl, refl);
         cards = λ is. absurd (cc);
         before = λ first is. (refl, refl, refl);
@@ -162,4 +162,7 @@ returns-in-Version-clause-does g c = record {
 }
 
 pub returns-in-FormatUnit-clause-does : goal.returns-in-FormatUnit-clause-does
-returns-in-FormatUnit-clause-does g c = record { ends = search rules; spares = search rules }
+returns-in-FormatUnit-clause-does g c = record {
+  ends = rw (c.in-FormatUnit.is, c.by_answer-in-FormatUnit.ensures.2) (search rules);
+  spares = rw (c.in-FormatUnit.is, c.by_answer-in-FormatUnit.ensures.2) (search rules);
+}

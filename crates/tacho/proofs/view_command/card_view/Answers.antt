@@ -1,7 +1,14 @@
+use Rattle.std.proofs.lemmas.Result.{err_from_is_err_and}
 use Rattle.file_view.specs.CardFiles.{IsBadCardFile}
 use Rattle.tacho.proofs.Views.{refused-by}
 use Rattle.tacho.proofs.view_command.card_view.Goals as goal
 
-pub returns-in-Err-clause-err : goal.returns-in-Err-clause-err
-returns-in-Err-clause-err c =
-    rw c.refusal.ensures (refused-by (λ place. IsBadCardFile place c.args.b.now) c.in-Err.fault c.in-Err.ensures.bad)
+pub returns-in_err-history-clause-err : goal.returns-in_err-history-clause-err
+returns-in_err-history-clause-err c =
+    let p = err_from_is_err_and c.from_residual.result c.from_residual.ensures.1 in
+    rw (p.1, p.2) (refused-by (λ place. IsBadCardFile place c.args.b.now) c.in_err-history.field-0.0 c.in_err-history.ensures.bad)
+
+pub returns-in_err-card_text-clause-err : goal.returns-in_err-card_text-clause-err
+returns-in_err-card_text-clause-err c =
+    let p = err_from_is_err_and c.from_residual-in_err-card_text.result c.from_residual-in_err-card_text.ensures.1 in
+    rw (p.1, p.2) tt

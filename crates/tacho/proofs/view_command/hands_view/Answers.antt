@@ -1,3 +1,4 @@
+use Rattle.std.proofs.lemmas.Result.{err_from_is_err_and}
 use Rattle.std.proofs.Common.{◌<◌, List, subst, sym}
 use Rattle.std.specs.List.{AllByRecursion}
 use Rattle.activity_codec.specs.declared.entries.Manual.{Manual}
@@ -10,15 +11,21 @@ use Rattle.tacho.proofs.view_command.hands_view.Goals as goal
 
 pub by_hand_text-requires : goal.by_hand_text-requires
 by_hand_text-requires c =
-    subst (λ (l : List Manual). AllByRecursion (λ (e : Manual). day_of_minute e.minute < DAYS) l) (sym c.as_slice.ensures.value) c.in-Ok.ensures.low
+    subst (λ (l : List Manual). AllByRecursion (λ (e : Manual). day_of_minute e.minute < DAYS) l) (sym c.as_slice.ensures.value) c.in_ok-entries.ensures.low
 
-pub returns-in-Ok-by_hand_text-clause-text : goal.returns-in-Ok-by_hand_text-clause-text
-returns-in-Ok-by_hand_text-clause-text c = record {
-  entries = c.in-Ok.entries.items;
-  shows = c.in-Ok.ensures.told;
-  view = subst (λ (l : List Manual). IsByHandView l c.in-Ok-by_hand_text.text.items) c.as_slice.ensures.value c.in-Ok-by_hand_text.ensures;
+pub returns-clause-text : goal.returns-clause-text
+returns-clause-text c = record {
+  entries = c.in_ok-entries.entries.items;
+  shows = c.in_ok-entries.ensures.told;
+  view = subst (λ (l : List Manual). IsByHandView l c.in_ok-by_hand_text.field-0.items) c.as_slice.ensures.value c.in_ok-by_hand_text.ensures;
 }
 
-pub returns-in-Err-clause-err : goal.returns-in-Err-clause-err
-returns-in-Err-clause-err c =
-    rw c.refusal.ensures (refused-by (λ place. IsBadCardFile place c.args.b.now) c.in-Err.fault c.in-Err.ensures.bad)
+pub returns-in_err-entries-clause-err : goal.returns-in_err-entries-clause-err
+returns-in_err-entries-clause-err c =
+    let p = err_from_is_err_and c.from_residual.result c.from_residual.ensures.1 in
+    rw (p.1, p.2) (refused-by (λ place. IsBadCardFile place c.args.b.now) c.in_err-entries.field-0.0 c.in_err-entries.ensures.bad)
+
+pub returns-in_err-by_hand_text-clause-err : goal.returns-in_err-by_hand_text-clause-err
+returns-in_err-by_hand_text-clause-err c =
+    let p = err_from_is_err_and c.from_residual-in_err-by_hand_text.result c.from_residual-in_err-by_hand_text.ensures.1 in
+    rw (p.1, p.2) tt

@@ -1,4 +1,4 @@
-use Rattle.std.proofs.Common.{ℕ, List, ap, sym, arith, append_assoc, ◌≡◌, ◌∙◌, ◌++◌, ◌∷◌, []}
+use Rattle.std.proofs.Common.{ℕ, List, ap, sym, arith, append_assoc, ◌∙◌, ◌++◌, ◌∷◌, []}
 use Rattle.std.proofs.lemmas.Result.{err_from_is_err_and}
 use Rattle.trace_text.proofs.read.trace_of.Goals as goal
 

@@ -1,4 +1,4 @@
-use Rattle.std.proofs.Common.{refl, arith, ◌+◌, slice_index_or}
+use Rattle.std.proofs.Common.{refl, arith, slice_index_or}
 use Rattle.text_fields.proofs.NumberLemmas.{one-more}
 use Rattle.trace_text.proofs.Runs.{number-split}
 use Rattle.trace_text.proofs.run_line.first_number.Goals as goal

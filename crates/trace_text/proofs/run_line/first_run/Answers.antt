@@ -9,10 +9,10 @@ returns-clause-range c = (omega arith, omega arith, omega arith)
 
 pub returns-clause-lines : goal.returns-clause-lines
 returns-clause-lines c =
-    let range : InRange (Run c.in-Some-first_number.seconds c.in-Some-first_number-2.speed) = (omega arith, omega arith, omega arith) in
-    run-lines c.in-Some-first_number.seconds c.in-Some-first_number-2.speed range c.args.text.now c.in-Some.digits.now c.in-Some-first_number.behind.now c.in-Some-first_number-2.rest.now c.in-Some.ensures c.in-Some-first_number.ensures c.in-Some-first_number-2.ensures
+    let range : InRange (Run c.in_ok-seconds.seconds c.in_ok-speed.speed) = (omega arith, omega arith, omega arith) in
+    run-lines c.in_ok-seconds.seconds c.in_ok-speed.speed range c.args.text.now c.in_ok-digits.digits.now c.in_ok-seconds.behind.now c.in_ok-speed.rest.now c.in_ok-digits.ensures c.in_ok-seconds.ensures c.in_ok-speed.ensures
 
 pub returns-clause-shorter : goal.returns-clause-shorter
 returns-clause-shorter c =
-    let range : InRange (Run c.in-Some-first_number.seconds c.in-Some-first_number-2.speed) = (omega arith, omega arith, omega arith) in
-    run-shorter c.in-Some-first_number.seconds c.in-Some-first_number-2.speed range c.args.text.now c.in-Some.digits.now c.in-Some-first_number.behind.now c.in-Some-first_number-2.rest.now c.in-Some.ensures c.in-Some-first_number.ensures c.in-Some-first_number-2.ensures
+    let range : InRange (Run c.in_ok-seconds.seconds c.in_ok-speed.speed) = (omega arith, omega arith, omega arith) in
+    run-shorter c.in_ok-seconds.seconds c.in_ok-speed.speed range c.args.text.now c.in_ok-digits.digits.now c.in_ok-seconds.behind.now c.in_ok-speed.rest.now c.in_ok-digits.ensures c.in_ok-seconds.ensures c.in_ok-speed.ensures

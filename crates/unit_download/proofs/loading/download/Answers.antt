@@ -4,7 +4,14 @@ use Rattle.unit_download.proofs.Talking.{nothing_began, told_download}
 use Rattle.unit_download.proofs.loading.download.Goals as goal
 
 pub returns-in_err-reserve-clause-downloaded : goal.returns-in_err-reserve-clause-downloaded
-returns-in_err-reserve-clause-downloaded g c = nothing_began c.from_residual.result _ _ _ c.from_residual.ensures.1 c.requires.fresh
+returns-in_err-reserve-clause-downloaded g c = record {
+  downloaded = nothing_began c.from_residual.result _ _ _ c.from_residual.ensures.1 c.requires.fresh;
+  file = first_of (search rules, grind (arith, common_steps));
+  front = first_of (search rules, grind (arith, common_steps));
+  changed = first_of (search rules, grind (arith, common_steps));
+  bad = first_of (search rules, grind (arith, common_steps));
+  nothing = first_of (search rules, grind (arith, common_steps));
+}
 
 pub returns-clause-downloaded : goal.returns-clause-downloaded
 returns-clause-downloaded g c =

@@ -14,20 +14,23 @@ returns-in_err-frame-clause-downloaded g c =
     let v = c.loop-sent.invariant.0 in (
       v.wire ++ stops.0,
       stops.1 v.wire v.has,
-      unanswered_ends v.talking c.in-Some.sent (sym c.next.ensures.sent ∙ c.in-Some.is) c.in_err-frame.field-0.0 stops.0 stops.2
-          c.from_residual.result (v.wire ++ stops.0) c.from_residual.ensures.1 refl,
+      record {
+        downloaded =
+            unanswered_ends v.talking c.in-Some.sent (sym c.next.ensures.sent ∙ c.in-Some.is) c.in_err-frame.field-0.0 stops.0 stops.2
+            c.from_residual.result (v.wire ++ stops.0) c.from_residual.ensures.1 refl;
+        file = first_of (search rules, grind (arith, common_steps));
+        front =
+            on_err c.from_residual.result (bytes_told (g.U.Medium.state c.args.unit.now) _ _ c.holds_bytes.ensures (λ x fit front. front fit) (unanswered_front c.loop-sent.invariant.0.talking c.in-Some.sent (sym c.next.ensures.sent ∙ c.in-Some.is)));
+        changed =
+            λ is.
+            let e = c.in_err-frame.ensures in
+            bytes_told (g.U.Medium.state c.args.unit.now) _ _ c.holds_bytes.ensures (λ x fit none. none fit)
+            (unanswered_untold c.loop-sent.invariant.0.talking c.in-Some.sent (sym c.next.ensures.sent ∙ c.in-Some.is) c.in_err-frame.field-0.0 e.stops.0 e.stops.2 (λ f. e.unit_judged.found (ap Err f))
+            (fault_is c.from_residual.result c.in_err-frame.field-0.0 Changed c.from_residual.ensures.1 is));
+        bad = first_of (search rules, grind (arith, common_steps));
+        nothing = first_of (search rules, grind (arith, common_steps));
+      },
     )
-
-pub returns-in_err-frame-clause-front : goal.returns-in_err-frame-clause-front
-returns-in_err-frame-clause-front g c =
-    on_err c.from_residual.result (bytes_told (g.U.Medium.state c.args.unit.now) _ _ c.holds_bytes.ensures (λ x fit front. front fit) (unanswered_front c.loop-sent.invariant.0.talking c.in-Some.sent (sym c.next.ensures.sent ∙ c.in-Some.is)))
-
-pub returns-in_err-frame-clause-changed : goal.returns-in_err-frame-clause-changed
-returns-in_err-frame-clause-changed g c = λ is.
-    let e = c.in_err-frame.ensures in
-    bytes_told (g.U.Medium.state c.args.unit.now) _ _ c.holds_bytes.ensures (λ x fit none. none fit)
-    (unanswered_untold c.loop-sent.invariant.0.talking c.in-Some.sent (sym c.next.ensures.sent ∙ c.in-Some.is) c.in_err-frame.field-0.0 e.stops.0 e.stops.2 (λ f. e.unit_judged.found (ap Err f))
-    (fault_is c.from_residual.result c.in_err-frame.field-0.0 Changed c.from_residual.ensures.1 is))
 
 pub returns-in_err-frame-clause-unit : goal.returns-in_err-frame-clause-unit
 returns-in_err-frame-clause-unit g c =
@@ -56,24 +59,27 @@ returns-in_err-take-clause-downloaded g c =
     let grown = v.wire ++ of_loader c.in-Some.sent ∷ of_unit c.in_ok-frame.frame ∷ [] in (
       grown,
       f.passed v.wire v.has,
-      untaken_ends v.talking c.in-Some.sent (sym c.next.ensures.sent ∙ c.in-Some.is) c.in_err-take.field-0.0 c.answer_to.new.session (g.U.Medium.state c.answer_to.new.unit) (g.K.Sink.held c.take.new.sink) c.in_ok-frame.frame
-          (record { answers = f.answered; knows = f.knows; judged = f.judged; reads = f.unit }) c.in_err-take.ensures.stops c.from_residual-in_err-take.result grown c.from_residual-in_err-take.ensures.1 refl,
+      record {
+        downloaded =
+            untaken_ends v.talking c.in-Some.sent (sym c.next.ensures.sent ∙ c.in-Some.is) c.in_err-take.field-0.0 c.answer_to.new.session (g.U.Medium.state c.answer_to.new.unit) (g.K.Sink.held c.take.new.sink) c.in_ok-frame.frame
+            (record { answers = f.answered; knows = f.knows; judged = f.judged; reads = f.unit }) c.in_err-take.ensures.stops c.from_residual-in_err-take.result grown c.from_residual-in_err-take.ensures.1 refl;
+        file = first_of (search rules, grind (arith, common_steps));
+        front =
+            let f = c.in_ok-frame.ensures in
+            on_err c.from_residual-in_err-take.result (bytes_told (g.U.Medium.state c.args.unit.now) _ _ c.holds_bytes.ensures (λ x fit front. front fit)
+            (untaken_front c.loop-sent.invariant.0.talking c.in-Some.sent (sym c.next.ensures.sent ∙ c.in-Some.is) c.in_err-take.field-0.0 c.answer_to.new.session (g.U.Medium.state c.answer_to.new.unit) (g.K.Sink.held c.take.new.sink) c.in_ok-frame.frame
+            (record { answers = f.answered; knows = f.knows; judged = f.judged; reads = f.unit }) c.in_err-take.ensures.stops));
+        changed =
+            λ is.
+            let f = c.in_ok-frame.ensures in
+            bytes_told (g.U.Medium.state c.args.unit.now) _ _ c.holds_bytes.ensures (λ x fit none. none fit)
+            (untaken_untold c.loop-sent.invariant.0.talking c.in-Some.sent (sym c.next.ensures.sent ∙ c.in-Some.is) c.in_err-take.field-0.0 c.answer_to.new.session (g.U.Medium.state c.answer_to.new.unit) (g.K.Sink.held c.take.new.sink) c.in_ok-frame.frame
+            (record { answers = f.answered; knows = f.knows; judged = f.judged; reads = f.unit }) c.in_err-take.ensures.stops
+            (fault_is c.from_residual-in_err-take.result c.in_err-take.field-0.0 Changed c.from_residual-in_err-take.ensures.1 is));
+        bad = first_of (search rules, grind (arith, common_steps));
+        nothing = first_of (search rules, grind (arith, common_steps));
+      },
     )
-
-pub returns-in_err-take-clause-front : goal.returns-in_err-take-clause-front
-returns-in_err-take-clause-front g c =
-    let f = c.in_ok-frame.ensures in
-    on_err c.from_residual-in_err-take.result (bytes_told (g.U.Medium.state c.args.unit.now) _ _ c.holds_bytes.ensures (λ x fit front. front fit)
-    (untaken_front c.loop-sent.invariant.0.talking c.in-Some.sent (sym c.next.ensures.sent ∙ c.in-Some.is) c.in_err-take.field-0.0 c.answer_to.new.session (g.U.Medium.state c.answer_to.new.unit) (g.K.Sink.held c.take.new.sink) c.in_ok-frame.frame
-    (record { answers = f.answered; knows = f.knows; judged = f.judged; reads = f.unit }) c.in_err-take.ensures.stops))
-
-pub returns-in_err-take-clause-changed : goal.returns-in_err-take-clause-changed
-returns-in_err-take-clause-changed g c = λ is.
-    let f = c.in_ok-frame.ensures in
-    bytes_told (g.U.Medium.state c.args.unit.now) _ _ c.holds_bytes.ensures (λ x fit none. none fit)
-    (untaken_untold c.loop-sent.invariant.0.talking c.in-Some.sent (sym c.next.ensures.sent ∙ c.in-Some.is) c.in_err-take.field-0.0 c.answer_to.new.session (g.U.Medium.state c.answer_to.new.unit) (g.K.Sink.held c.take.new.sink) c.in_ok-frame.frame
-    (record { answers = f.answered; knows = f.knows; judged = f.judged; reads = f.unit }) c.in_err-take.ensures.stops
-    (fault_is c.from_residual-in_err-take.result c.in_err-take.field-0.0 Changed c.from_residual-in_err-take.ensures.1 is))
 
 pub returns-in_err-take-clause-unit : goal.returns-in_err-take-clause-unit
 returns-in_err-take-clause-unit g c =
@@ -81,11 +87,19 @@ returns-in_err-take-clause-unit g c =
     (any_then c.loop-sent.invariant.0.talking.reads c.in_ok-frame.ensures.unit)
 
 pub returns-clause-downloaded : goal.returns-clause-downloaded
-returns-clause-downloaded g c = let v = c.loop-sent.invariant.0 in (v.wire, v.has, talking_done tt v.talking c.in_default.ensures.none)
-
-pub returns-clause-file : goal.returns-clause-file
-returns-clause-file g c =
-    bytes_told (g.U.Medium.state c.args.unit.now) _ _ c.holds_bytes.ensures (λ x fit file. (file.0, file.1 fit)) (talking_file c.loop-sent.invariant.0.talking c.in_default.ensures.none)
+returns-clause-downloaded g c =
+    let v = c.loop-sent.invariant.0 in (
+      v.wire,
+      v.has,
+      record {
+        downloaded = talking_done tt v.talking c.in_default.ensures.none;
+        file = bytes_told (g.U.Medium.state c.args.unit.now) _ _ c.holds_bytes.ensures (λ x fit file. (file.0, file.1 fit)) (talking_file c.loop-sent.invariant.0.talking c.in_default.ensures.none);
+        front = tt;
+        changed = first_of (search rules, grind (arith, common_steps));
+        bad = tt;
+        nothing = tt;
+      },
+    )
 
 pub loop-sent-init : goal.loop-sent-init
 loop-sent-init g c =

@@ -1,6 +1,6 @@
-use Rattle.std.proofs.Common.{◌∙◌, sym}
-use Rattle.card_layout.proofs.Spelled.{number_two_bytes}
+use Rattle.std.proofs.Common.{◌∙◌, ℕ, List, ap}
+use Rattle.byteorder.specs.Endian.{big_number}
 use Rattle.unit_messages.proofs.parts.two_in.Goals as goal
 
 pub returns : goal.returns
-returns c = c.from_be_bytes.ensures ∙ sym (number_two_bytes c.args.bytes.now c.args.place)
+returns c = c.read_u16.ensures ∙ ap (λ (l : List ℕ). big_number 2 l) c.cut.ensures.bytes

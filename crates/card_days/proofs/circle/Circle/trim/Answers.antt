@@ -1,7 +1,6 @@
 use Rattle.std.proofs.Common.{ℕ, [], false, length, IfSome, ap, subst, arith}
-use Rattle.std.proofs.lemmas.Result.{on_ok_weaker}
 use Rattle.tach_media.specs.Medium.{Reads}
-use Rattle.tach_media.proofs.Runs.{weaken, goes_on, at_image}
+use Rattle.tach_media.proofs.Runs.{weaken, goes_on, at_image, on_ok, ok_gives}
 use Rattle.card_model.specs.Changes.{until}
 use Rattle.card_model.specs.Image.{HoldsDays}
 use Rattle.card_days.specs.Trim.{IsTrimming, IsTrimmed, IsCutLast, IsTrim}
@@ -26,19 +25,16 @@ returns-clause-moments g c =
     (at_image (IsTrimmed r c.first_second.result x) is (at_image (λ x. IfSome (g.M.Medium.state c.drop_later.new.medium).image (IsTrimmed r c.first_second.result x)) was c.in_ok-drop_later.ensures.dropped.trimmed))) d step)
 
 pub returns-clause-trimmed : goal.returns-clause-trimmed
-returns-clause-trimmed g c =
-    let r = c.args.self.now in
-    let m = c.args.minute in
-    on_ok_weaker c.cut.result (λ made.
-    through (g.M.Medium.state c.args.medium.now).image (g.M.Medium.state c.drop_later.new.medium).image _ (IsTrimmed r c.first_second.result) (IsCutLast r m) (IsTrim r m) c.drop_later.ensures.moments.tells
-    c.in_ok-drop_later.ensures.dropped.trimmed made (λ x y z was first step. trim_made r m x y (subst (λ (k : ℕ). IsTrimmed r k x y) c.first_second.ensures first) z step)) c.cut.ensures.cut
-
-pub returns-clause-settled : goal.returns-clause-settled
-returns-clause-settled g c = on_ok_weaker c.cut.result (λ settled. if_told (g.M.Medium.state c.args.medium.now).image _ (λ x was.
-    settled_after c.args.self.now c.in_ok-drop_later.ensures.dropped.settled settled x was)) c.cut.ensures.settled
-
-pub returns-clause-still : goal.returns-clause-still
-returns-clause-still g c = on_ok_weaker c.cut.result (λ settled. still_after c.args.self.now c.in_ok-drop_later.ensures.dropped.settled settled) c.cut.ensures.settled
+returns-clause-trimmed g c = on_ok c.cut.result (λ fine. record {
+  is =
+      let r = c.args.self.now in
+      let m = c.args.minute in
+      through (g.M.Medium.state c.args.medium.now).image (g.M.Medium.state c.drop_later.new.medium).image _ (IsTrimmed r c.first_second.result) (IsCutLast r m) (IsTrim r m) c.drop_later.ensures.moments.tells
+      c.in_ok-drop_later.ensures.dropped.trimmed (ok_gives c.cut.result c.cut.ensures.cut fine) (λ x y z was first step. trim_made r m x y (subst (λ (k : ℕ). IsTrimmed r k x y) c.first_second.ensures first) z step);
+  settled = if_told (g.M.Medium.state c.args.medium.now).image _ (λ x was.
+      settled_after c.args.self.now c.in_ok-drop_later.ensures.dropped.settled (ok_gives c.cut.result c.cut.ensures.settled fine) x was);
+  still = still_after c.args.self.now c.in_ok-drop_later.ensures.dropped.settled (ok_gives c.cut.result c.cut.ensures.settled fine);
+})
 
 pub returns-clause-empty : goal.returns-clause-empty
 returns-clause-empty g c =

@@ -1,5 +1,4 @@
-use Rattle.std.proofs.lemmas.Grind.{common_steps}
-use Rattle.std.proofs.Common.{rules, ◌≡◌, Bool, true, List, [], Some, IfSome, refl, sym, ◌∙◌, subst, ap, arith}
+use Rattle.std.proofs.Common.{rules, ◌≡◌, ℕ, Bool, true, List, [], Option, Some, IfSome, refl, sym, ◌∙◌, subst, ap, arith}
 use Rattle.std.specs.Prelude.{is_err}
 use Rattle.tach_media.specs.Medium.{Reads}
 use Rattle.tach_media.proofs.Runs.{at_image, where_told, reads_then}
@@ -36,7 +35,13 @@ returns-clause-empty g c =
 
 pub returns-clause-cut : goal.returns-clause-cut
 returns-clause-cut g c = record {
-  is = first_of (search rules, grind (arith, common_steps));
+  is =
+      let old = g.M.Medium.state c.args.medium.now in
+      let new = g.M.Medium.state c.tail.new.medium in
+      let m = c.args.minute in
+      let same : c.self.inside.circle ≡ c.args.self.now.shape = ap (λ (h : Held). h.shape) c.self.view_is in
+      subst (λ (s : StringShape). IfSome old.image (λ x. IfSome new.image (IsTrim s m x))) same
+      (subst (λ (o : Option (List ℕ)). IfSome old.image (λ x. IfSome o (IsTrim c.self.inside.circle m x))) (sym (c.in_ok-self-inside.ensures.reads.same refl)) c.in_ok-trim.ensures.trimmed.is);
   knows =
       let old = g.M.Medium.state c.args.medium.now in
       let mid = g.M.Medium.state c.trim.new.medium in
@@ -46,16 +51,16 @@ returns-clause-cut g c = record {
       let next = hold c.self.inside.circle c.in_ok-self-inside.field-0 in
       where_told old.image _ (λ x y. (days : List Day) → HoldsDays r x days → Knows (hold c.self.inside.circle c.in_ok-self-inside.field-0) y (trimmed m days)) (λ x y was now days h.
       let there : mid.image ≡ Some y = sym (c.in_ok-self-inside.ensures.reads.same refl) ∙ now in
-      let step = at_image (IsTrim c.self.inside.circle m x) there (at_image (λ x. IfSome mid.image (IsTrim c.self.inside.circle m x)) was c.in_ok-trim.ensures.trimmed) in
+      let step = at_image (IsTrim c.self.inside.circle m x) there (at_image (λ x. IfSome mid.image (IsTrim c.self.inside.circle m x)) was c.in_ok-trim.ensures.trimmed.is) in
       at_image (λ y. (days : List Day) → HoldsDays c.self.inside.circle y days → Knows (hold c.self.inside.circle c.in_ok-self-inside.field-0) y days) there c.in_ok-self-inside.ensures.knows (trimmed m days)
       (step.list days (subst (λ (s : StringShape). HoldsDays s x days) (sym same) h)));
   settled =
       let old = g.M.Medium.state c.args.medium.now in
       let r = c.args.self.now.shape in
       let same : c.self.inside.circle ≡ r = ap (λ (h : Held). h.shape) c.self.view_is in
-      from_told old.image _ _ c.in_ok-trim.ensures.settled (λ x was settled days h some.
+      from_told old.image _ _ c.in_ok-trim.ensures.trimmed.settled (λ x was settled days h some.
       settled_reads c.in_ok-self-inside.ensures.reads (settled days (subst (λ (s : StringShape). HoldsDays s x days) (sym same) h) some));
-  still = first_of (search rules, grind (arith, common_steps));
+  still = λ was. settled_reads c.in_ok-self-inside.ensures.reads (c.in_ok-trim.ensures.trimmed.still was);
 }
 
 pub returns-in_err-trim-clause-writes : goal.returns-in_err-trim-clause-writes

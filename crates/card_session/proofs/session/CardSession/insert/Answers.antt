@@ -125,13 +125,13 @@ returns-clause-accepted g c = record {
         a.1 ∙ ap (λ (t : Session). t.registration) c.over-session.ensures,
         a.2 ∙ ap (λ (t : Session). t.odometer) c.over-session.ensures,
       );
-  few = omega (arith, c.in_ok-replayed.ensures.few, ap (λ (l : List Entry). length l) c.as_slice.ensures.value);
+  few = omega (arith, c.in_ok-replayed.ensures.replays.few, ap (λ (l : List Entry). length l) c.as_slice.ensures.value);
   replayed =
       let app = c.args.app.now in
       let es = c.as_slice.result.now in
       if_told (g.M.Medium.state c.args.port.now).image _ (λ x was.
       let known = (at_image (λ x. IsJudged app x c.in_ok-judged.judged) was c.in_ok-judged.ensures.judged).known in
-      c.in_ok-replayed.ensures.count
+      c.in_ok-replayed.ensures.replays.count
       ∙ ap (λ (u : CurrentUse). replayed_count u.session.0 (last_use_of c.over-session.result.vehicle / 60) es) known.current
       ∙ ap (λ (t : Session). replayed_count (session_time app x) (last_use_of t.vehicle / 60) es) c.over-session.ensures
       ∙ ap (λ (o : Option Vehicle). replayed_count (session_time app x) (last_use_of o / 60) es) known.vehicle

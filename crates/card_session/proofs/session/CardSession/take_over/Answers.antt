@@ -60,18 +60,21 @@ returns-clause-same g c =
     let d = c.recount-2.ensures.same in
     (d.0 ∙ b.0 ∙ a.0, d.1 ∙ b.1 ∙ a.1, d.2 ∙ b.2 ∙ a.2)
 
-pub returns-clause-few : goal.returns-clause-few
-returns-clause-few g c = omega (arith, c.in_ok-replayed.ensures.count, lacked_few (last_use_of c.args.self.now.vehicle / 60) c.args.owed.now)
+pub returns-then-current-eq0-clause-replays : goal.returns-then-current-eq0-clause-replays
+returns-then-current-eq0-clause-replays g c = record {
+  few = omega arith;
+  count =
+      let closed : nat_eq c.args.current.now.session.0 0 ≡ true = grind (arith, common_steps) in
+      sym (ap (λ (b : Bool). cond b 0 (length (lacked (last_use_of c.args.self.now.vehicle / 60) c.args.owed.now))) closed);
+}
 
-pub returns-then-current-eq0-clause-count : goal.returns-then-current-eq0-clause-count
-returns-then-current-eq0-clause-count g c =
-    let closed : nat_eq c.args.current.now.session.0 0 ≡ true = grind (arith, common_steps) in
-    sym (ap (λ (b : Bool). cond b 0 (length (lacked (last_use_of c.args.self.now.vehicle / 60) c.args.owed.now))) closed)
-
-pub returns-clause-count : goal.returns-clause-count
-returns-clause-count g c =
-    let unclosed : nat_eq c.args.current.now.session.0 0 ≡ false = grind (arith, common_steps) in
-    c.in_ok-replayed.ensures.count ∙ sym (ap (λ (b : Bool). cond b 0 (length (lacked (last_use_of c.args.self.now.vehicle / 60) c.args.owed.now))) unclosed)
+pub returns-clause-replays : goal.returns-clause-replays
+returns-clause-replays g c = record {
+  few = omega (arith, c.in_ok-replayed.ensures.count, lacked_few (last_use_of c.args.self.now.vehicle / 60) c.args.owed.now);
+  count =
+      let unclosed : nat_eq c.args.current.now.session.0 0 ≡ false = grind (arith, common_steps) in
+      c.in_ok-replayed.ensures.count ∙ sym (ap (λ (b : Bool). cond b 0 (length (lacked (last_use_of c.args.self.now.vehicle / 60) c.args.owed.now))) unclosed);
+}
 
 pub returns-clause-called : goal.returns-clause-called
 returns-clause-called g c = called_then c.in_ok-replayed.ensures.part.cause c.in_ok-renew.ensures.called

@@ -1,4 +1,5 @@
-use Rattle.std.proofs.Common.{◌∙◌, length-take, length-drop, arith}
+use Rattle.std.proofs.lemmas.Grind.{common_steps}
+use Rattle.std.proofs.Common.{◌∙◌, length-take, length-drop, arith, rules}
 use Rattle.unit_messages.proofs.Calls.{any_then}
 use Rattle.link_session.proofs.IfAny.{same_size}
 use Rattle.unit_minutes.proofs.IfAny.{read_same}
@@ -25,21 +26,22 @@ answer_next-requires-clause-knows g c = still_knows c.loop-done.invariant.0
 pub loop-done-preserved : goal.loop-done-preserved
 loop-done-preserved g c =
     let e = c.in_ok-done.ensures in (
-      answering_on c.in_ok-done.field-0 c.answer_next.new.self (g.U.Medium.state c.answer_next.new.unit) (g.K.Sink.held c.answer_next.new.sink) c.loop-done.invariant.0 e.taken.1 e.kept e.answered e.knows e.unit,
-      omega (arith, c.loop-done.invariant.1, e.counts),
+      answering_on c.in_ok-done.field-0 c.answer_next.new.self (g.U.Medium.state c.answer_next.new.unit) (g.K.Sink.held c.answer_next.new.sink) c.loop-done.invariant.0 e.taken.1 e.kept e.answered e.knows e.goes.unit,
+      omega (arith, c.loop-done.invariant.1, e.goes.counts),
     )
 
 pub returns-in_err-done-clause-stops : goal.returns-in_err-done-clause-stops
 returns-in_err-done-clause-stops g c =
     passed c.from_residual.result _ _ c.from_residual.ensures.1 (answering_stops (g.K.Sink.held c.answer_next.new.sink) _ c.loop-done.invariant.0 c.in_err-done.ensures.stops)
 
-pub returns-in_err-done-clause-cause : goal.returns-in_err-done-clause-cause
-returns-in_err-done-clause-cause g c =
-    caused_passed c.from_residual.result _ ⊥ ⊥ (g.K.Sink.faults c.args.sink.now) (g.K.Sink.faults c.loop-done.sink) (g.K.Sink.faults c.answer_next.new.sink) _ _ c.from_residual.ensures.1
-    (λ none. none) c.loop-done.invariant.1 (read_same c.loop-done.invariant.0.reads) c.in_err-done.ensures.cause
-
-pub returns-in_err-done-clause-unit : goal.returns-in_err-done-clause-unit
-returns-in_err-done-clause-unit g c = passed_reads c.from_residual.result _ c.from_residual.ensures.1 (any_then c.loop-done.invariant.0.reads c.in_err-done.ensures.unit)
+pub returns-in_err-done-clause-goes : goal.returns-in_err-done-clause-goes
+returns-in_err-done-clause-goes g c = record {
+  cause =
+      caused_passed c.from_residual.result _ ⊥ ⊥ (g.K.Sink.faults c.args.sink.now) (g.K.Sink.faults c.loop-done.sink) (g.K.Sink.faults c.answer_next.new.sink) _ _ c.from_residual.ensures.1
+      (λ none. none) c.loop-done.invariant.1 (read_same c.loop-done.invariant.0.reads) c.in_err-done.ensures.goes.cause;
+  counts = first_of (search rules, grind (arith, common_steps));
+  unit = passed_reads c.from_residual.result _ c.from_residual.ensures.1 (any_then c.loop-done.invariant.0.reads c.in_err-done.ensures.goes.unit);
+}
 
 pub returns-clause-kept : goal.returns-clause-kept
 returns-clause-kept g c = answering_kept c.loop-done.invariant.0 (omega arith)
@@ -50,5 +52,9 @@ returns-clause-answered g c = answering_done c.loop-done.invariant.0 (omega arit
 pub returns-clause-knows : goal.returns-clause-knows
 returns-clause-knows g c = c.loop-done.invariant.0.knows
 
-pub returns-clause-unit : goal.returns-clause-unit
-returns-clause-unit g c = c.loop-done.invariant.0.reads
+pub returns-clause-goes : goal.returns-clause-goes
+returns-clause-goes g c = record {
+  cause = first_of (search rules, grind (arith, common_steps));
+  counts = first_of (search rules, grind (arith, common_steps));
+  unit = c.loop-done.invariant.0.reads;
+}

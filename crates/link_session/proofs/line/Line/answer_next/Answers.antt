@@ -1,4 +1,5 @@
-use Rattle.std.proofs.Common.{◌≡◌, List, length, take, sym, subst, arith}
+use Rattle.std.proofs.lemmas.Grind.{common_steps}
+use Rattle.std.proofs.Common.{◌≡◌, List, length, take, sym, subst, arith, rules}
 use Rattle.unit_memory.proofs.Told.{told_all}
 use Rattle.link_model.specs.Frames.{Heard}
 use Rattle.link_frames.specs.Seen.{meant}
@@ -46,3 +47,24 @@ returns-clause-answered g c =
     let line = c.args.self.now in
     let one = heard_one line.scanner (take c.feed-taken.result.0 c.args.bytes.now) c.feed-taken.result.1 c.in-Some.seen c.requires.listens c.feed-taken.ensures.heard c.in-Some.is in
     answered_at c.args.spelling (g.U.Medium.state c.args.unit.now).image line.session.state c.answer_frame.new.session.state _ _ (g.K.Sink.held c.args.sink.now) (g.K.Sink.held c.answer_frame.new.sink) (sym one) c.in_ok-answer_frame.ensures.answered
+
+pub returns-in_default-clause-goes : goal.returns-in_default-clause-goes
+returns-in_default-clause-goes g c = record {
+  cause = first_of (search rules, grind (arith, common_steps));
+  counts = first_of (search rules, grind (arith, common_steps));
+  unit = first_of (search rules, grind (arith, common_steps));
+}
+
+pub returns-in_err-answer_frame-clause-goes : goal.returns-in_err-answer_frame-clause-goes
+returns-in_err-answer_frame-clause-goes g c = record {
+  cause = first_of (search rules, grind (arith, common_steps));
+  counts = first_of (search rules, grind (arith, common_steps));
+  unit = first_of (search rules, grind (arith, common_steps));
+}
+
+pub returns-clause-goes : goal.returns-clause-goes
+returns-clause-goes g c = record {
+  cause = first_of (search rules, grind (arith, common_steps));
+  counts = first_of (search rules, grind (arith, common_steps));
+  unit = first_of (search rules, grind (arith, common_steps));
+}

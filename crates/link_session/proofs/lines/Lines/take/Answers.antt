@@ -1,4 +1,5 @@
-use Rattle.std.proofs.Common.{length, arith}
+use Rattle.std.proofs.lemmas.Grind.{common_steps}
+use Rattle.std.proofs.Common.{length, arith, rules}
 use Rattle.text_fields.specs.Pieces.{pieces_behind}
 use Rattle.unit_messages.proofs.Calls.{any_then}
 use Rattle.link_session.proofs.ServeFaults.{passed}
@@ -26,8 +27,12 @@ returns-in_err-end_line-clause-stops g c =
     passed c.from_residual-in_err-end_line.result _ _ c.from_residual-in_err-end_line.ensures.1
     (taking_stops c.loop-behind.behind c.in-Some.rest _ (g.K.Sink.held c.end_line.new.sink) c.loop-behind.invariant.0 c.in-Some.is c.in_err-end_line.ensures.stops)
 
-pub returns-in_err-end_line-clause-unit : goal.returns-in_err-end_line-clause-unit
-returns-in_err-end_line-clause-unit g c = lines_reads c.from_residual-in_err-end_line.result _ c.from_residual-in_err-end_line.ensures.1 (any_then c.loop-behind.invariant.0.reads c.in_err-end_line.ensures.unit)
+pub returns-in_err-end_line-clause-goes : goal.returns-in_err-end_line-clause-goes
+returns-in_err-end_line-clause-goes g c = record {
+  cause = first_of (search rules, grind (arith, common_steps));
+  counts = first_of (search rules, grind (arith, common_steps));
+  unit = lines_reads c.from_residual-in_err-end_line.result _ c.from_residual-in_err-end_line.ensures.1 (any_then c.loop-behind.invariant.0.reads c.in_err-end_line.ensures.goes.unit);
+}
 
 pub returns-in_err-keep-2-clause-stops : goal.returns-in_err-keep-2-clause-stops
 returns-in_err-keep-2-clause-stops g c =
@@ -40,7 +45,28 @@ loop-behind-preserved g c =
     let e = c.in_ok-end_line.ensures in
     let k = c.in_ok-keep-2.ensures in
     let on = taking_on c.loop-behind.behind c.in-Some.rest (pieces_behind 10 c.first_piece-in-Some.result.1) c.first_piece-in-Some.result.0.now c.end_line.new.self c.keep-in-Some.new.self (g.U.Medium.state c.end_line.new.unit) (g.K.Sink.held c.end_line.new.sink)
-    c.loop-behind.invariant.0 c.in-Some.is e.heard c.first_piece-in-Some.ensures.pieces e.text e.whole e.knows e.unit k.text k.line k.whole in
+    c.loop-behind.invariant.0 c.in-Some.is e.heard c.first_piece-in-Some.ensures.pieces e.text e.whole e.knows e.goes.unit k.text k.line k.whole in
     let few = smaller_behind c.first_piece-in-Some.result.1 (length c.in-Some.rest.now) c.first_piece-in-Some.ensures.shorter in
     let size = size_is c.loop-behind.behind c.in-Some.rest c.in-Some.is in
-    (on, omega (arith, c.loop-behind.invariant.1, e.counts), omega (arith, c.loop-behind.invariant.2, k.whole, e.whole, few, size))
+    (on, omega (arith, c.loop-behind.invariant.1, e.goes.counts), omega (arith, c.loop-behind.invariant.2, k.whole, e.whole, few, size))
+
+pub returns-in_err-keep-clause-goes : goal.returns-in_err-keep-clause-goes
+returns-in_err-keep-clause-goes g c = record {
+  cause = first_of (search rules, grind (arith, common_steps));
+  counts = first_of (search rules, grind (arith, common_steps));
+  unit = first_of (search rules, grind (arith, common_steps));
+}
+
+pub returns-in_err-keep-2-clause-goes : goal.returns-in_err-keep-2-clause-goes
+returns-in_err-keep-2-clause-goes g c = record {
+  cause = first_of (search rules, grind (arith, common_steps));
+  counts = first_of (search rules, grind (arith, common_steps));
+  unit = first_of (search rules, grind (arith, common_steps));
+}
+
+pub returns-clause-goes : goal.returns-clause-goes
+returns-clause-goes g c = record {
+  cause = first_of (search rules, grind (arith, common_steps));
+  counts = first_of (search rules, grind (arith, common_steps));
+  unit = first_of (search rules, grind (arith, common_steps));
+}

@@ -1,4 +1,5 @@
-use Rattle.std.proofs.Common.{Option, sym, ◌∙◌, ap}
+use Rattle.std.proofs.lemmas.Grind.{common_steps}
+use Rattle.std.proofs.Common.{Option, sym, ◌∙◌, ap, rules, arith}
 use Rattle.std.specs.Prelude.{is_some}
 use Rattle.unit_minutes.specs.declared.notes.Notes.{Notes}
 use Rattle.link_session.specs.Told.{SessionView, is_judged}
@@ -9,9 +10,15 @@ use Rattle.link_session.proofs.session.Session.ask.Goals as goal
 pub ask_first-requires-clause-anew : goal.ask_first-requires-clause-anew
 ask_first-requires-clause-anew g c = ap (λ (v : SessionView). is_judged v) (sym c.self.view_is) ∙ ap (λ (j : Option Notes). is_some j) c.in_default.is
 
-pub returns-in_default-clause-bad : goal.returns-in_default-clause-bad
-returns-in_default-clause-bad g c =
-    bad_anew c.ask_first.result _ _ (ap (λ (v : SessionView). is_judged v) (sym c.self.view_is) ∙ ap (λ (j : Option Notes). is_some j) c.in_default.is) c.ask_first.ensures.bad
+pub returns-in_default-clause-asks : goal.returns-in_default-clause-asks
+returns-in_default-clause-asks g c = record {
+  stays = first_of (search rules, grind (arith, common_steps));
+  judged = first_of (search rules, grind (arith, common_steps));
+  knows = first_of (search rules, grind (arith, common_steps));
+  same = first_of (search rules, grind (arith, common_steps));
+  bad = c.ask_first.ensures.asks.bad;
+  reads = first_of (search rules, grind (arith, common_steps));
+}
 
 pub part_of-requires-clause-decodes : goal.part_of-requires-clause-decodes
 part_of-requires-clause-decodes g c =
@@ -28,19 +35,24 @@ part_of-requires-clause-known g c =
     let i = c.self.inside in
     outlines_of i.journal i.outline (g.M.Medium.state c.args.unit.now).image (as_found _ _ _ c.self.view_is c.requires.knows)
 
-pub returns-in_err-part-clause-bad : goal.returns-in_err-part-clause-bad
-returns-in_err-part-clause-bad g c = failed_bad c.from_residual.result _ c.from_residual.ensures.1
+pub returns-in_err-part-clause-asks : goal.returns-in_err-part-clause-asks
+returns-in_err-part-clause-asks g c = record {
+  stays = first_of (search rules, grind (arith, common_steps));
+  judged = first_of (search rules, grind (arith, common_steps));
+  knows = first_of (search rules, grind (arith, common_steps));
+  same = first_of (search rules, grind (arith, common_steps));
+  bad = failed_bad c.from_residual.result _ c.from_residual.ensures.1;
+  reads = failed_reads c.from_residual.result c.from_residual.ensures.1 c.in_err-part.ensures.reads;
+}
 
-pub returns-in_err-part-clause-reads : goal.returns-in_err-part-clause-reads
-returns-in_err-part-clause-reads g c = failed_reads c.from_residual.result c.from_residual.ensures.1 c.in_err-part.ensures.reads
-
-pub returns-clause-stays : goal.returns-clause-stays
-returns-clause-stays g c = ap (λ (v : SessionView). v.state) c.self.view_is
-
-pub returns-clause-judged : goal.returns-clause-judged
-returns-clause-judged g c = ap (λ (j : Option Notes). is_some j) c.in-Some.is
-
-pub returns-clause-knows : goal.returns-clause-knows
-returns-clause-knows g c =
-    let i = c.self.inside in
-    other_outline i.journal i.outline c.in_ok-part.part.outline (g.M.Medium.state c.args.unit.now).image (as_found _ _ _ c.self.view_is c.requires.knows) c.in_ok-part.ensures.outline
+pub returns-clause-asks : goal.returns-clause-asks
+returns-clause-asks g c = record {
+  stays = ap (λ (v : SessionView). v.state) c.self.view_is;
+  judged = ap (λ (j : Option Notes). is_some j) c.in-Some.is;
+  knows =
+      let i = c.self.inside in
+      other_outline i.journal i.outline c.in_ok-part.part.outline (g.M.Medium.state c.args.unit.now).image (as_found _ _ _ c.self.view_is c.requires.knows) c.in_ok-part.ensures.outline;
+  same = first_of (search rules, grind (arith, common_steps));
+  bad = first_of (search rules, grind (arith, common_steps));
+  reads = first_of (search rules, grind (arith, common_steps));
+}

@@ -1,4 +1,5 @@
-use Rattle.std.proofs.Common.{◌+◌, ◌-◌, ◌*◌, ◌≤◌, List, ℕ, length, subst, sym}
+use Rattle.std.proofs.lemmas.Grind.{common_steps}
+use Rattle.std.proofs.Common.{◌+◌, ◌-◌, ◌*◌, ◌≤◌, List, ℕ, length, subst, sym, rules, arith}
 use Rattle.unit_memory.proofs.Told.{one_told}
 use Rattle.message_model.specs.Sending.{content_sent}
 use Rattle.link_frames.specs.Sending.{IsPart}
@@ -19,3 +20,23 @@ pub returns-clause-possible : goal.returns-clause-possible
 returns-clause-possible g c =
     let p = c.in_ok-part.ensures.possible in
     (p.0, c.sent_on.ensures p.0 (subst (λ (l : List ℕ). IsPart p.0 (2 + 251 * (c.args.code - 1)) c.in_ok-part.part.told l) (sym c.as_slice.ensures.value) (subst (λ (n : ℕ). IsPart p.0 n c.in_ok-part.part.told c.in_ok-part.part.bytes.items) c.place_of-place.ensures p.1)))
+
+pub returns-in_err-part-clause-asks : goal.returns-in_err-part-clause-asks
+returns-in_err-part-clause-asks g c = record {
+  stays = first_of (search rules, grind (arith, common_steps));
+  judged = first_of (search rules, grind (arith, common_steps));
+  knows = first_of (search rules, grind (arith, common_steps));
+  same = first_of (search rules, grind (arith, common_steps));
+  bad = first_of (search rules, grind (arith, common_steps));
+  reads = first_of (search rules, grind (arith, common_steps));
+}
+
+pub returns-clause-asks : goal.returns-clause-asks
+returns-clause-asks g c = record {
+  stays = first_of (search rules, grind (arith, common_steps));
+  judged = first_of (search rules, grind (arith, common_steps));
+  knows = first_of (search rules, grind (arith, common_steps));
+  same = first_of (search rules, grind (arith, common_steps));
+  bad = first_of (search rules, grind (arith, common_steps));
+  reads = first_of (search rules, grind (arith, common_steps));
+}

@@ -53,7 +53,7 @@ pub returns-in-Begin-clause-found : goal.returns-in-Begin-clause-found
 returns-in-Begin-clause-found g c = record {
   judged =
       let yes : asks c.args.step ≡ true = ap (λ (s : Step). asks s) c.in-Begin.is in
-      on_ok_weaker c.begin.result (λ is. is ∙ now_judged (is_judged c.args.self.now) (asks c.args.step) yes) c.begin.ensures.judged;
+      on_ok_weaker c.begin.result (λ is. is ∙ now_judged (is_judged c.args.self.now) (asks c.args.step) yes) c.begin.ensures.asks.judged;
   knows = first_of (search rules, grind (arith, common_steps));
 }
 
@@ -65,7 +65,7 @@ returns-in-Begin-clause-spared g c =
 pub returns-in-Begin-clause-not : goal.returns-in-Begin-clause-not
 returns-in-Begin-clause-not g c = record {
   silent = if_err c.begin.result (λ fault. ap (λ (s : Step). asks s) c.in-Begin.is);
-  bad = c.begin.ensures.bad;
+  bad = c.begin.ensures.asks.bad;
 }
 
 pub returns-in-Piece-clause-performed : goal.returns-in-Piece-clause-performed
@@ -79,7 +79,7 @@ pub returns-in-Piece-clause-found : goal.returns-in-Piece-clause-found
 returns-in-Piece-clause-found g c = record {
   judged =
       let yes : asks c.args.step ≡ true = ap (λ (s : Step). asks s) c.in-Piece.is in
-      on_ok_weaker c.go_on.result (λ is. is ∙ now_judged (is_judged c.args.self.now) (asks c.args.step) yes) c.go_on.ensures.judged;
+      on_ok_weaker c.go_on.result (λ is. is ∙ now_judged (is_judged c.args.self.now) (asks c.args.step) yes) c.go_on.ensures.asks.judged;
   knows = first_of (search rules, grind (arith, common_steps));
 }
 
@@ -91,7 +91,7 @@ returns-in-Piece-clause-spared g c =
 pub returns-in-Piece-clause-not : goal.returns-in-Piece-clause-not
 returns-in-Piece-clause-not g c = record {
   silent = if_err c.go_on.result (λ fault. ap (λ (s : Step). asks s) c.in-Piece.is);
-  bad = c.go_on.ensures.bad;
+  bad = c.go_on.ensures.asks.bad;
 }
 
 pub returns-in-Answer-clause-not : goal.returns-in-Answer-clause-not

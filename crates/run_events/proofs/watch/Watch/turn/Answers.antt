@@ -1,7 +1,6 @@
 use Rattle.std.proofs.Common.{◌≡◌, ◌++◌, ◌+◌, true, false, Bool, ℕ, Option, List, sym, subst, arith, rules}
 use Rattle.std.specs.Prelude.{is_err}
 use Rattle.tach_media.proofs.Runs.{ok_gives, cause_after, on_ok}
-use Rattle.tach_media.specs.Medium.{State}
 use Rattle.event_model.specs.Spans.{SpeedSecond, at_speed}
 use Rattle.speed_store.specs.Feeding as minute
 use Rattle.unit_events.proofs.Calling.{journal-then}
@@ -17,7 +16,7 @@ pub feed-ended-requires-clause-watches : goal.feed-ended-requires-clause-watches
 feed-ended-requires-clause-watches g c = watches-with c.args.self.now c.feed-block.new.self c.args.seconds.first c.requires.watch.watches.events
 
 pub put_block-requires-clause-time : goal.put_block-requires-clause-time
-put_block-requires-clause-time g c = late-block c.feed-block.result (c.args.seconds.first + c.args.seconds.n) c.feed-block.ensures.time (omega (arith, c.requires.seconds.low, c.requires.seconds.some))
+put_block-requires-clause-time g c = late-block c.feed-block.result (c.args.seconds.first + c.args.seconds.count) c.feed-block.ensures.time (omega (arith, c.requires.seconds.low, c.requires.seconds.some))
 
 pub note_ended-requires-clause-works : goal.note_ended-requires-clause-works
 note_ended-requires-clause-works g c = c.in_ok-newest.ensures.cause.works
@@ -36,25 +35,25 @@ stands-then kept first n speed fed after h seconds stands = subst (λ (l : List 
 pub returns-in_err-newest-clause-watches : goal.returns-in_err-newest-clause-watches
 returns-in_err-newest-clause-watches g c = record {
   events = c.feed-ended.ensures.watches;
-  speeds = follows-then c.args.self.now.speeds c.args.seconds.first c.args.seconds.n c.args.seconds.speed c.feed-block.new.self c.feed-ended.new.self.speeds (c.feed-ended.ensures.speeds, c.feed-block.ensures.fed) c.requires.watch.watches.speeds;
+  speeds = follows-then c.args.self.now.speeds c.args.seconds.first c.args.seconds.count c.args.seconds.speed c.feed-block.new.self c.feed-ended.new.self.speeds (c.feed-ended.ensures.speeds, c.feed-block.ensures.fed) c.requires.watch.watches.speeds;
 }
 
 pub returns-clause-watches : goal.returns-clause-watches
 returns-clause-watches g c = record {
-  events = watches-newest c.feed-ended.new.self c.in_ok-newest.newest (c.args.seconds.first + c.args.seconds.n) c.feed-ended.ensures.watches;
-  speeds = follows-then c.args.self.now.speeds c.args.seconds.first c.args.seconds.n c.args.seconds.speed c.feed-block.new.self c.feed-ended.new.self.speeds (c.feed-ended.ensures.speeds, c.feed-block.ensures.fed) c.requires.watch.watches.speeds;
+  events = watches-newest c.feed-ended.new.self c.in_ok-newest.newest (c.args.seconds.first + c.args.seconds.count) c.feed-ended.ensures.watches;
+  speeds = follows-then c.args.self.now.speeds c.args.seconds.first c.args.seconds.count c.args.seconds.speed c.feed-block.new.self c.feed-ended.new.self.speeds (c.feed-ended.ensures.speeds, c.feed-block.ensures.fed) c.requires.watch.watches.speeds;
 }
 
 pub returns-in_err-newest-clause-watched : goal.returns-in_err-newest-clause-watched
 returns-in_err-newest-clause-watched g c =
     let failed : true ≡ is_err c.from_residual.result = search rules in
-    subst (λ (b : Bool). IsWatchedOn b c.args.self.now c.feed-ended.new.self c.args.seconds.first c.args.seconds.n c.args.seconds.speed c.args.crew (g.M.Medium.state c.args.unit.now) (g.M.Medium.state c.put_block.new.unit)) failed
+    subst (λ (b : Bool). IsWatchedOn b c.args.self.now c.feed-ended.new.self c.args.seconds.first c.args.seconds.count c.args.seconds.speed c.args.crew (g.M.Medium.state c.args.unit.now) (g.M.Medium.state c.put_block.new.unit)) failed
     (record {
       ended = c.feed-ended.result;
       block = c.feed-block.result;
-      fed = fed-with c.args.self.now c.feed-block.new.self c.feed-ended.new.self c.args.seconds.first c.args.seconds.n c.args.seconds.speed c.args.crew c.feed-ended.result c.feed-ended.ensures.fed;
+      fed = fed-with c.args.self.now c.feed-block.new.self c.feed-ended.new.self c.args.seconds.first c.args.seconds.count c.args.seconds.speed c.args.crew c.feed-ended.result c.feed-ended.ensures.fed;
       minute_fed = record {
-        stands = stands-then c.args.self.now.speeds c.args.seconds.first c.args.seconds.n c.args.seconds.speed c.feed-block.new.self c.feed-ended.new.self.speeds (c.feed-ended.ensures.speeds, c.feed-block.ensures.fed);
+        stands = stands-then c.args.self.now.speeds c.args.seconds.first c.args.seconds.count c.args.seconds.speed c.feed-block.new.self c.feed-ended.new.self.speeds (c.feed-ended.ensures.speeds, c.feed-block.ensures.fed);
         blocks = c.feed-block.ensures.given;
       };
       last = c.feed-block.ensures.time;
@@ -72,10 +71,10 @@ returns-clause-watched g c =
       ended = c.feed-ended.result;
       block = c.feed-block.result;
       fed =
-          fed-newest c.feed-ended.new.self c.in_ok-newest.newest c.args.self.now c.args.seconds.first c.args.seconds.n c.args.seconds.speed c.args.crew c.feed-ended.result
-          (fed-with c.args.self.now c.feed-block.new.self c.feed-ended.new.self c.args.seconds.first c.args.seconds.n c.args.seconds.speed c.args.crew c.feed-ended.result c.feed-ended.ensures.fed);
+          fed-newest c.feed-ended.new.self c.in_ok-newest.newest c.args.self.now c.args.seconds.first c.args.seconds.count c.args.seconds.speed c.args.crew c.feed-ended.result
+          (fed-with c.args.self.now c.feed-block.new.self c.feed-ended.new.self c.args.seconds.first c.args.seconds.count c.args.seconds.speed c.args.crew c.feed-ended.result c.feed-ended.ensures.fed);
       minute_fed = record {
-        stands = stands-then c.args.self.now.speeds c.args.seconds.first c.args.seconds.n c.args.seconds.speed c.feed-block.new.self c.feed-ended.new.self.speeds (c.feed-ended.ensures.speeds, c.feed-block.ensures.fed);
+        stands = stands-then c.args.self.now.speeds c.args.seconds.first c.args.seconds.count c.args.seconds.speed c.feed-block.new.self c.feed-ended.new.self.speeds (c.feed-ended.ensures.speeds, c.feed-block.ensures.fed);
         blocks = c.feed-block.ensures.given;
       };
       last = c.feed-block.ensures.time;

@@ -11,7 +11,7 @@ use Rattle.unit_minutes.specs.Image.{IsKeeping}
 use Rattle.unit_minutes.specs.Kept.{kept_minute}
 use Rattle.run_minutes.proofs.Sessions.{some-goes}
 use Rattle.run_minutes.proofs.Faults.{keeping-nothing}
-use Rattle.run_minutes.proofs.MinuteBegun.{put-at, told_with, cut-first, cut-second, kept-or-cut}
+use Rattle.run_minutes.proofs.MinuteBegun.{put-at, cut-first, cut-second, kept-or-cut}
 use Rattle.run_minutes.proofs.Speeds.{keeping-speeds}
 use Rattle.run_minutes.proofs.OnUnit.{unit-then, unit-by, unit-moments, unit-stands-then, unit-stands-by, unit-stands-cut, journal-stands}
 use Rattle.run_minutes.proofs.keeper.Keeper.acknowledge.Goals as goal
@@ -30,8 +30,8 @@ returns-in_err-owe_to-clause-booked g c = λ says.
     let U1 = g.M.Medium.state c.owe_to.new.unit in
     let X = g.C.Chip.state c.args.card_a.now in
     let Y = g.D.Chip.state c.args.card_b.now in
-    subst (λ (b : Bool). BooksOwed c.args.said.present c.args.said.minute b (told_with c.args.self.now c.args.marks.now) (told_with c.owe_to.new.self c.args.marks.now) (devices U X Y) (devices U1 X Y)) failed
-    (cut-first c.args.said.minute c.args.said.present says c.requires.may.apart (told_with c.args.self.now c.args.marks.now) (told_with c.owe_to.new.self c.args.marks.now) U U1 X Y
+    subst (λ (b : Bool). BooksOwed c.args.said.present c.args.said.minute b c.args.self.now.cabin.cards c.owe_to.new.self.cabin.cards c.args.marks.now.items (devices U X Y) (devices U1 X Y)) failed
+    (cut-first c.args.said.minute c.args.said.present says c.requires.may.apart c.args.self.now.cabin.cards c.owe_to.new.self.cabin.cards c.args.marks.now.items U U1 X Y
     (put-at c.args.said.present.driver c.kept_in-driver.result.entry (entry_in c.args.said.minute Driver) true c.args.self.now.cabin.cards c.args.self.now.cabin.cards U U1 X Y (ap (λ (k : Kept). k.entry) c.kept_in-driver.ensures) refl c.in_err-owe_to.ensures.booked) c.in_err-owe_to.ensures.travelled)
 
 pub returns-in_err-owe_to-2-clause-booked : goal.returns-in_err-owe_to-2-clause-booked
@@ -42,8 +42,8 @@ returns-in_err-owe_to-2-clause-booked g c = λ says.
     let U2 = g.M.Medium.state c.owe_to-2.new.unit in
     let X = g.C.Chip.state c.args.card_a.now in
     let Y = g.D.Chip.state c.args.card_b.now in
-    subst (λ (b : Bool). BooksOwed c.args.said.present c.args.said.minute b (told_with c.args.self.now c.args.marks.now) (told_with c.owe_to-2.new.self c.args.marks.now) (devices U X Y) (devices U2 X Y)) failed
-    (cut-second c.args.said.minute c.args.said.present says c.requires.may.apart (told_with c.args.self.now c.args.marks.now) (told_with c.owe_to-2.new.self c.args.marks.now) U U1 X Y
+    subst (λ (b : Bool). BooksOwed c.args.said.present c.args.said.minute b c.args.self.now.cabin.cards c.owe_to-2.new.self.cabin.cards c.args.marks.now.items (devices U X Y) (devices U2 X Y)) failed
+    (cut-second c.args.said.minute c.args.said.present says c.requires.may.apart c.args.self.now.cabin.cards c.owe_to-2.new.self.cabin.cards c.args.marks.now.items U U1 X Y
     (put-at c.args.said.present.driver c.kept_in-driver.result.entry (entry_in c.args.said.minute Driver) false c.args.self.now.cabin.cards c.args.self.now.cabin.cards U U1 X Y (ap (λ (k : Kept). k.entry) c.kept_in-driver.ensures) refl c.in_ok-owe_to.ensures.booked) c.in_ok-owe_to.ensures.travelled U2
     (put-at c.args.said.present.codriver c.kept_in-codriver.result.entry (entry_in c.args.said.minute CoDriver) true c.owe_to.new.self.cabin.cards c.args.self.now.cabin.cards U1 U2 X Y (ap (λ (k : Kept). k.entry) c.kept_in-codriver.ensures)
     (ap (λ (k : Keeper). k.cabin.cards) {y = c.args.self.now} c.in_ok-owe_to.ensures.same) c.in_err-owe_to-2.ensures.booked) c.in_err-owe_to-2.ensures.travelled)
@@ -60,8 +60,8 @@ returns-in_err-commit-clause-booked g c = λ says.
     let X = g.C.Chip.state c.args.card_a.now in
     let Y = g.D.Chip.state c.args.card_b.now in
     let e = c.in_err-commit.ensures in
-    subst (λ (b : Bool). BooksOwed c.args.said.present c.args.said.minute b (told_with c.args.self.now c.args.marks.now) (told_with (record c.owe_to-2.new.self { journal = c.commit.new.journal }) c.args.marks.now) (devices U X Y) (devices V X Y)) failed
-    (kept-or-cut c.args.said.minute c.args.said.present says c.requires.may.apart (told_with c.args.self.now c.args.marks.now) (told_with (record c.owe_to-2.new.self { journal = c.commit.new.journal }) c.args.marks.now) U U1 X Y
+    subst (λ (b : Bool). BooksOwed c.args.said.present c.args.said.minute b c.args.self.now.cabin.cards c.owe_to-2.new.self.cabin.cards c.args.marks.now.items (devices U X Y) (devices V X Y)) failed
+    (kept-or-cut c.args.said.minute c.args.said.present says c.requires.may.apart c.args.self.now.cabin.cards c.owe_to-2.new.self.cabin.cards c.args.marks.now.items U U1 X Y
     (put-at c.args.said.present.driver c.kept_in-driver.result.entry (entry_in c.args.said.minute Driver) false c.args.self.now.cabin.cards c.args.self.now.cabin.cards U U1 X Y (ap (λ (k : Kept). k.entry) c.kept_in-driver.ensures) refl c.in_ok-owe_to.ensures.booked) c.in_ok-owe_to.ensures.travelled U2
     (put-at c.args.said.present.codriver c.kept_in-codriver.result.entry (entry_in c.args.said.minute CoDriver) false c.owe_to.new.self.cabin.cards c.args.self.now.cabin.cards U1 U2 X Y (ap (λ (k : Kept). k.entry) c.kept_in-codriver.ensures)
     (ap (λ (k : Keeper). k.cabin.cards) {y = c.args.self.now} c.in_ok-owe_to.ensures.same) c.in_ok-owe_to-2.ensures.booked) c.in_ok-owe_to-2.ensures.travelled V true
@@ -79,7 +79,7 @@ returns-clause-booked g c = λ says.
     let X = g.C.Chip.state c.args.card_a.now in
     let Y = g.D.Chip.state c.args.card_b.now in
     let e = c.in_ok-commit.ensures in
-    kept-or-cut c.args.said.minute c.args.said.present says c.requires.may.apart (told_with c.args.self.now c.args.marks.now) (told_with (record c.owe_to-2.new.self { journal = c.commit.new.journal }) c.add.new.self) U U1 X Y
+    kept-or-cut c.args.said.minute c.args.said.present says c.requires.may.apart c.args.self.now.cabin.cards c.owe_to-2.new.self.cabin.cards c.args.marks.now.items U U1 X Y
     (put-at c.args.said.present.driver c.kept_in-driver.result.entry (entry_in c.args.said.minute Driver) false c.args.self.now.cabin.cards c.args.self.now.cabin.cards U U1 X Y (ap (λ (k : Kept). k.entry) c.kept_in-driver.ensures) refl c.in_ok-owe_to.ensures.booked) c.in_ok-owe_to.ensures.travelled U2
     (put-at c.args.said.present.codriver c.kept_in-codriver.result.entry (entry_in c.args.said.minute CoDriver) false c.owe_to.new.self.cabin.cards c.args.self.now.cabin.cards U1 U2 X Y (ap (λ (k : Kept). k.entry) c.kept_in-codriver.ensures)
     (ap (λ (k : Keeper). k.cabin.cards) {y = c.args.self.now} c.in_ok-owe_to.ensures.same) c.in_ok-owe_to-2.ensures.booked) c.in_ok-owe_to-2.ensures.travelled V false

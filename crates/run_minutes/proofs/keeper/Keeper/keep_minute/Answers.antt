@@ -173,7 +173,7 @@ returns-in_err-bring-clause-kept g c =
         cut-told p m c.args.said.at k c.args.outcome.now.marks c.args.outcome.now.breaks c.acknowledge.new.self.journal clock notes.0 notes.1 c.acknowledge.new.self c.acknowledge.ensures.kept.keeper c.acknowledge.new.marks c.in_ok-acknowledge.ensures.kept.marked
             c.bring.new.self c.bring.new.outcome.marks c.bring.new.outcome.breaks was.0 U V X Y b,
       );
-      books = λ says. booked-cut m p says c.requires.may.kept.apart k c.acknowledge.new.self c.args.outcome.now.marks c.acknowledge.new.marks c.args.outcome.now.breaks (ap (λ (q : Keeper). q.cabin.cards) c.acknowledge.ensures.kept.keeper) (g.M.Medium.state c.args.unit.now) U A0 B0
+      books = λ says. booked-cut m p says c.requires.may.kept.apart k c.acknowledge.new.self c.args.outcome.now.marks c.args.outcome.now.breaks (ap (λ (q : Keeper). q.cabin.cards) c.acknowledge.ensures.kept.keeper) (g.M.Medium.state c.args.unit.now) U A0 B0
           (c.in_ok-acknowledge.ensures.booked says) true was.0 c.bring.new.self c.args.said.at.second b.keeper V A1 B1 first refl (g.met.M.Medium.coherent c.acknowledge.new.unit) c.bring.ensures.journal (told-of c.bring.new.self c.bring.new.outcome.marks c.bring.new.outcome.breaks)
           (round-of p c.args.said.at.second k.cabin c.acknowledge.new.self.journal clock was.0 Still) refl refl refl
           (sym (ap (λ (q : Keeper). held_in (session_at q.cabin.cards p.driver)) c.acknowledge.ensures.kept.keeper));
@@ -321,7 +321,7 @@ returns-clause-kept g c =
           subst (λ (q : Kept). BooksBrought p.driver q false was.0 c.acknowledge.new.self.cabin.cards c.bring.new.self.cabin.cards (devices U A0 B0) (devices V A1 B1)) c.kept_in-driver.ensures was.3 in
           let second : BooksBrought p.codriver (kept_in m CoDriver) failed is.0 c.bring.new.self.cabin.cards c.bring-2.new.self.cabin.cards (devices V A1 B1) (devices W A2 B2) =
           subst (λ (q : Kept). BooksBrought p.codriver q failed is.0 c.bring.new.self.cabin.cards c.bring-2.new.self.cabin.cards (devices V A1 B1) (devices W A2 B2)) c.kept_in-codriver.ensures is.3 in
-          booked-whole m p says c.requires.may.kept.apart k c.acknowledge.new.self c.args.outcome.now.marks c.acknowledge.new.marks c.args.outcome.now.breaks (ap (λ (q : Keeper). q.cabin.cards) c.acknowledge.ensures.kept.keeper) (g.M.Medium.state c.args.unit.now) U A0 B0
+          booked-whole m p says c.requires.may.kept.apart k c.acknowledge.new.self c.args.outcome.now.marks c.args.outcome.now.breaks (ap (λ (q : Keeper). q.cabin.cards) c.acknowledge.ensures.kept.keeper) (g.M.Medium.state c.args.unit.now) U A0 B0
           (c.in_ok-acknowledge.ensures.booked says) false was.0 c.bring.new.self c.args.said.at.second b.keeper V A1 B1 first refl failed is.0 c.bring-2.new.self d.keeper W A2 B2 second
           (λ none. clock-rests g.C.Chip.state c.bring.new.card_a c.bring-2.new.card_a (c.bring-2.ensures.calls.out.card_a none)) (λ none. clock-rests g.D.Chip.state c.bring.new.card_b c.bring-2.new.card_b (c.bring-2.ensures.calls.out.card_b none))
           (g.met.M.Medium.coherent c.acknowledge.new.unit) c.bring.ensures.journal (g.met.M.Medium.coherent c.bring.new.unit) c.bring-2.ensures.journal c.bring-2.new.outcome.marks c.bring-2.new.outcome.breaks (round-of p c.args.said.at.second k.cabin j clock was.0 is.0) refl refl refl

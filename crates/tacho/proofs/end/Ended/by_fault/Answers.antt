@@ -1,0 +1,5 @@
+use Rattle.std.proofs.Common.{rules}
+use Rattle.tacho.proofs.end.Ended.by_fault.Goals as goal
+
+pub returns : goal.returns
+returns c = (c.empty.result, search rules, c.of.ensures)
