@@ -34,7 +34,12 @@ fn written(from: End, body: &[u8]) -> ArrayVec<u8, WRITTEN>
 {
     match from {
         End::Loader if body.len() == 1 && body[0] == START_COMMUNICATION => with_sum(
-            &[SHORT_FORM, UNIT_ADDRESS, LOADER_ADDRESS, START_COMMUNICATION],
+            &[
+                SHORT_FORM,
+                UNIT_ADDRESS,
+                LOADER_ADDRESS,
+                START_COMMUNICATION,
+            ],
             &[],
         ),
         End::Loader => long(End::Unit, body),

@@ -2,9 +2,7 @@
 ghost use Rattle.std.specs.Prelude.{◌≡◌};
 ghost use Rattle.link_model.specs.Answers.{number_of};
 
-use crate::services::{
-    DAY_NUMBER, EVENTS_NUMBER, OVERVIEW_NUMBER, SPEED_NUMBER, TECHNICAL_NUMBER,
-};
+use crate::services::{DAY_NUMBER, EVENTS_NUMBER, OVERVIEW_NUMBER, SPEED_NUMBER, TECHNICAL_NUMBER};
 
 /// What a downloader asks of a unit (Annex IB, Appendix 7, 2.2.6).
 #[derive(Clone, Copy, Debug, PartialEq, Eq)]
