@@ -1,5 +1,5 @@
 //! Datagrams out of a stream of bytes.
-ghost use Rattle.std.specs.Prelude.{◌≡◌, ◌<◌, ◌++◌, [], ◌∷◌, drop, length};
+ghost use Rattle.std.specs.Prelude.{◌≡◌, ◌<◌, ◌≤◌, ◌++◌, [], ◌∷◌, drop, length};
 ghost use Rattle.packet_service.specs.Datagrams.{gathered, gathered_by, datagram};
 
 use arrayvec::ArrayVec;
