@@ -19,7 +19,6 @@ use Rattle.tacho_types.specs.Texts.{padded_text}
 use Rattle.tacho.specs.Texts.{word_in, number_in}
 
 infixl 10 ◌>>=◌
-
 -- a step behind another: it tells nothing where one of them tells nothing
 abbrev pub ◌>>=◌ : {A B : Type 0} → Option A → (A → Option B) → Option B
 None >>= rest = None

@@ -155,7 +155,10 @@ fn perform<S: Peer<K>, K: Sink, F: Sink, U: Medium, C: Chip>(
         }
         Form::Serve => Ended::by_fault(alloc, service_end(serve(source, sink, unit))),
         Form::ServeHex => Ended::by_fault(alloc, lines_end(serve_lines(alloc, source, sink, unit))),
-        Form::ServePackets => Ended::by_fault(alloc, service_end(serve_packets(source, sink, unit))),
+        Form::ServePackets => Ended::by_fault(
+            alloc,
+            service_end(serve_packets(source, sink, unit)),
+        ),
         Form::DownloadPackets => Ended::by_fault(
             alloc,
             packets_end(download_packets(alloc, source, sink, file)),

@@ -27,9 +27,9 @@ pub returns-in_err-put_piece-clause-writes : goal.returns-in_err-put_piece-claus
 returns-in_err-put_piece-clause-writes g c =
     let p = err_from_is_err_and c.from_residual.result c.from_residual.ensures.1 in
     rw (p.1, p.2) (
-  piece_cut c.args.b.now c.args.pieces.now c.loop-piece.piece-index c.loop-piece-test.true (g.K.Sink.held c.args.sink.now) (g.K.Sink.held c.loop-piece.sink) (g.K.Sink.held c.put_piece.new.sink) c.loop-piece.invariant.written c.in_err-put_piece.ensures.writes.0,
-  c.in_err-put_piece.ensures.writes.1,
-)
+      piece_cut c.args.b.now c.args.pieces.now c.loop-piece.piece-index c.loop-piece-test.true (g.K.Sink.held c.args.sink.now) (g.K.Sink.held c.loop-piece.sink) (g.K.Sink.held c.put_piece.new.sink) c.loop-piece.invariant.written c.in_err-put_piece.ensures.writes.0,
+      c.in_err-put_piece.ensures.writes.1,
+    )
 
 pub returns-in_err-put_piece-clause-cause : goal.returns-in_err-put_piece-clause-cause
 returns-in_err-put_piece-clause-cause g c = λ is.
