@@ -26,30 +26,30 @@ help_text = as_lines (
     codes "tacho download packets                   ask a unit by packets, and write its file to unit.ddd" ∷
     codes "tacho card a|b > FILE                    write a card's file" ∷
     codes "tacho view < FILE                        print the minutes of a unit's file, or a card's entries" ∷
-    codes "tacho view last N < FILE                 print its last N days (1 to 366)" ∷
+    codes "tacho view last N < FILE                 print the minutes of its last N days (1 to 366)" ∷
     codes "tacho view manual < FILE                 print the entries by hand of a card's file" ∷
-    codes "tacho totals < FILE                      print the hours of each day of such a file" ∷
+    codes "tacho totals < FILE                      print the hours of each day of a unit's or a card's file" ∷
     codes "tacho totals last N < FILE               print those of its last N days" ∷
     codes "tacho chart < FILE > PICTURE             draw its days as one SVG" ∷
     codes "tacho chart last N < FILE > PICTURE      draw its last N days" ∷
     codes "tacho speeds < FILE                      print the speed of each minute of a unit's file" ∷
     codes "tacho speeds last N < FILE               print that of its last N minutes (1 to 1440)" ∷
-    codes "tacho show < FILE                        print all that stands in such a file, as JSON" ∷
-    codes "tacho show last N < FILE                 print it with its last N days alone" ∷
-    codes "tacho match < FILES                      say whether a card's file, behind a unit's, stands in that" ∷
+    codes "tacho show < FILE                        print all that stands in a unit's or a card's file, as JSON" ∷
+    codes "tacho show last N < FILE                 print it with only its last N days" ∷
+    codes "tacho match < FILES                      say whether a card's file, put after a unit's, stands in it" ∷
     codes "tacho match all < FILES                  print each difference, and the counts" ∷
     codes "tacho format unit N PLATE VIN LIMIT      make a new unit in unit.img: what it held is lost" ∷
-    codes "tacho format a|b N NUMBER SURNAME FIRST  make a new card in card-a.img or card-b.img, likewise" ∷
+    codes "tacho format a|b N NUMBER SURNAME FIRST  make a new card in card-a.img or card-b.img: what it held is lost" ∷
     codes "tacho upgrade                            give the unit the amended rule of minutes, for good" ∷
     codes "tacho state                              print what the unit and the cards tell of themselves" ∷
-    codes "tacho demo X                             record forty days drawn from X on a new unit and card a" ∷
+    codes "tacho demo X                             record forty days drawn from X on unit and card a: what they held is lost" ∷
     codes "tacho help, tacho --help                 print these lines" ∷
     codes "tacho --version                          print the version, and that of the toolchain" ∷
     codes "Example: (echo start 1267401600; echo run 3600 50) | tacho minutes" ∷ [])
 
 -- the version, and that of the toolchain which proves it
 unfoldable pub version_text : List ℕ
-version_text = as_lines (codes "tacho 1.6.1" ∷ codes "rattle-kit-13f logic dac8208d650f15bf" ∷ [])
+version_text = as_lines (codes "tacho 1.7.0" ∷ codes "rattle-kit-13f logic dac8208d650f15bf" ∷ [])
 
 -- all is done, or the sink failed
 abbrev pub IsTextEnd : Fault → Type 0

@@ -20,30 +20,30 @@ tacho download noisy X > FILE            write it over a link that loses and rep
 tacho download packets                   ask a unit by packets, and write its file to unit.ddd
 tacho card a|b > FILE                    write a card's file
 tacho view < FILE                        print the minutes of a unit's file, or a card's entries
-tacho view last N < FILE                 print its last N days (1 to 366)
+tacho view last N < FILE                 print the minutes of its last N days (1 to 366)
 tacho view manual < FILE                 print the entries by hand of a card's file
-tacho totals < FILE                      print the hours of each day of such a file
+tacho totals < FILE                      print the hours of each day of a unit's or a card's file
 tacho totals last N < FILE               print those of its last N days
 tacho chart < FILE > PICTURE             draw its days as one SVG
 tacho chart last N < FILE > PICTURE      draw its last N days
 tacho speeds < FILE                      print the speed of each minute of a unit's file
 tacho speeds last N < FILE               print that of its last N minutes (1 to 1440)
-tacho show < FILE                        print all that stands in such a file, as JSON
-tacho show last N < FILE                 print it with its last N days alone
-tacho match < FILES                      say whether a card's file, behind a unit's, stands in that
+tacho show < FILE                        print all that stands in a unit's or a card's file, as JSON
+tacho show last N < FILE                 print it with only its last N days
+tacho match < FILES                      say whether a card's file, put after a unit's, stands in it
 tacho match all < FILES                  print each difference, and the counts
 tacho format unit N PLATE VIN LIMIT      make a new unit in unit.img: what it held is lost
-tacho format a|b N NUMBER SURNAME FIRST  make a new card in card-a.img or card-b.img, likewise
+tacho format a|b N NUMBER SURNAME FIRST  make a new card in card-a.img or card-b.img: what it held is lost
 tacho upgrade                            give the unit the amended rule of minutes, for good
 tacho state                              print what the unit and the cards tell of themselves
-tacho demo X                             record forty days drawn from X on a new unit and card a
+tacho demo X                             record forty days drawn from X on unit and card a: what they held is lost
 tacho help, tacho --help                 print these lines
 tacho --version                          print the version, and that of the toolchain
 Example: (echo start 1267401600; echo run 3600 50) | tacho minutes
 ";
 
 /// What `--version` prints: the version, and that of the toolchain which proves it.
-const VERSION: &[u8] = b"tacho 1.6.1
+const VERSION: &[u8] = b"tacho 1.7.0
 rattle-kit-13f logic dac8208d650f15bf
 ";
 
