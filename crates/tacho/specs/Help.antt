@@ -42,7 +42,7 @@ help_text = as_lines (
     codes "tacho format a|b N NUMBER SURNAME FIRST  make a new card in card-a.img or card-b.img: what it held is lost" ∷
     codes "tacho upgrade                            give the unit the amended rule of minutes, for good" ∷
     codes "tacho state                              print what the unit and the cards tell of themselves" ∷
-    codes "tacho demo X                             record forty days drawn from X on unit and card a: what they held is lost" ∷
+    codes "tacho demo X                             record forty days drawn from X: what unit and card a held is lost" ∷
     codes "tacho help, tacho --help                 print these lines" ∷
     codes "tacho --version                          print the version, and that of the toolchain" ∷
     codes "Example: (echo start 1267401600; echo run 3600 50) | tacho minutes" ∷ [])

@@ -36,7 +36,7 @@ tacho format unit N PLATE VIN LIMIT      make a new unit in unit.img: what it he
 tacho format a|b N NUMBER SURNAME FIRST  make a new card in card-a.img or card-b.img: what it held is lost
 tacho upgrade                            give the unit the amended rule of minutes, for good
 tacho state                              print what the unit and the cards tell of themselves
-tacho demo X                             record forty days drawn from X on unit and card a: what they held is lost
+tacho demo X                             record forty days drawn from X: what unit and card a held is lost
 tacho help, tacho --help                 print these lines
 tacho --version                          print the version, and that of the toolchain
 Example: (echo start 1267401600; echo run 3600 50) | tacho minutes
