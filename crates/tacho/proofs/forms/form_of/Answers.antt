@@ -15,8 +15,8 @@ pub returns-in-Some-three : goal.returns-in-Some-three
 unfolding form_of
 returns-in-Some-three c = rw c.in-Some-three.ensures.found c.form_of_three.ensures
 
-pub returns-in_err-six : goal.returns-in_err-six
-returns-in_err-six c = rw c.from_residual.ensures (sym (no-form c.args.words.now c.in_default.ensures.none c.in_default-two.ensures.none c.in_default-three.ensures.none c.in_err-six.ensures.none))
+pub returns-in_err-command : goal.returns-in_err-command
+returns-in_err-command c = rw c.from_residual.ensures (sym (no-form c.args.words.now c.in_default.ensures.none c.in_default-two.ensures.none c.in_default-three.ensures.none c.in_err-command.ensures.none))
 
 pub returns : goal.returns
 unfolding form_of
