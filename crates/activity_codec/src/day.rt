@@ -1,4 +1,5 @@
-//! The length of a day and of a minute, and the last minute that has a time: each crate takes them from here.
+//! The length of a day and of a minute, and the last minute that has a time. (The link, which stands on no crate, has
+//! its own length of a day: link_model.)
 
 /// The minutes of a day.
 pub const DAY_MINUTES: u32 = 1440;

@@ -35,8 +35,8 @@ pub record EndedDrop (s : Held) (U V : State) : Type 0 where
   pub knows : IfSome U.image (λ x. IfSome V.image (λ y. (days : List Day) → Knows s x days → Knows s y days))
   pub settled : 0 < s.tail.used → V.clock < last_count → IsSettled V
 
--- THE DAYS WERE TRIMMED to a minute: the image is so; where there was a day a stop leaves the image alone, and so where it
--- did before
+-- THE DAYS WERE TRIMMED to a minute: the image is so; where there was a day a stop leaves the image alone, and so where
+-- it did before
 pub record TrimmedDays (r : StringShape) (minute : ℕ) (U V : State) : Type 0 where
   pub is : IfSome U.image (λ x. IfSome V.image (IsTrim r minute x))
   pub settled : IfSome U.image (λ x. (days : List Day) → HoldsDays r x days → days ≢ []

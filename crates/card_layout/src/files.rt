@@ -90,8 +90,8 @@ pub const LARGEST: Application = Application {
 /// The size in bytes of the flat image of a card of the largest sizes: no image of a driver card is larger.
 pub const LARGEST_IMAGE: u32 = 24959;
 
-/// The bytes in front of each entry of a downloaded card file: the file's identifier, 2 bytes, the kind of the entry, 1,
-/// and how many bytes follow, 2 (Appendix 7, 3.4).
+/// The bytes in front of each entry of a downloaded card file: the file's identifier, 2 bytes, the kind of the entry,
+/// 1, and how many bytes follow, 2 (Appendix 7, 3.4).
 pub const FILE_HEAD: usize = 5;
 
 /// Where Application_Identification stands in the flat image, at any sizes: the card type is its first byte.

@@ -57,8 +57,8 @@ lacked mark (e ∷ es) = if nat_lt mark e.minute then e ∷ es else lacked mark 
 abbrev pub replayed_count : (session mark : ℕ) → List Entry → ℕ
 replayed_count session mark owed = if nat_eq session 0 then 0 else length (lacked mark owed)
 
--- so many of the owed entries were replayed: those that a card with this session time and this end mark lacks, which are
--- no more than are owed
+-- so many of the owed entries were replayed: those that a card with this session time and this end mark lacks, which
+-- are no more than are owed
 pub record Replays (session mark : ℕ) (owed : List Entry) (n : ℕ) : Type 0 where
   pub few : n ≤ length owed
   pub count : n ≡ replayed_count session mark owed

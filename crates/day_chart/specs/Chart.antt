@@ -41,7 +41,8 @@ band_head top date =
 -- the band of a day of a unit: two lanes, the marks of the day and the axis
 abbrev pub unit_band : List Gap → List Mark → (place : ℕ) → (date : List ℕ) → List (Viewed UnitShown) → List ℕ
 unit_band gaps marks place date minutes =
-    band_head (FIRST_BAND + UNIT_BAND * place) date ++ lane_text date (codes "driver") (map (slot_seen gaps Driver) minutes)
+    band_head (FIRST_BAND + UNIT_BAND * place) date
+    ++ lane_text date (codes "driver") (map (slot_seen gaps Driver) minutes)
     ++ codes "<g transform=\"translate(0 30)\">\n"
     ++ lane_text date (codes "codriver") (map (slot_seen gaps CoDriver) minutes)
     ++ marks_text date (day_of minutes) marks

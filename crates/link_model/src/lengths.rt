@@ -6,5 +6,6 @@ pub const FRAME_MOST: u32 = 255;
 pub const MESSAGE_HEADER: u32 = 2;
 /// The most bytes of a message's content that go in one frame (profile).
 pub const WHOLE_MOST: u32 = 252;
-/// The most bytes of a message's content that go in a piece (profile): 76, the number and the counter stand before them.
+/// The most bytes of a message's content that go in a piece (profile): 76, the number and the counter stand before
+/// them.
 pub const PIECE_MOST: u32 = 251;

@@ -92,6 +92,7 @@ pub fn a_noisy_download_goes_to_a_sink()
 /// of it.
 pub fn packets_are_read_as_written()
     ensures read { (p : Sent) → p.number < 2 ^ 64
-        → IfSome p.frame (λ frame. (0 < length frame) × (length frame ≤ FRAME_MOST)) → packet_in (packet_bytes p) ≡ Some p }
+        → IfSome p.frame (λ frame. (0 < length frame) × (length frame ≤ FRAME_MOST))
+        → packet_in (packet_bytes p) ≡ Some p }
     ensures written { (bytes : List ℕ) (p : Sent) → IsBytes bytes → packet_in bytes ≡ Some p → packet_bytes p ≡ bytes }
 {}

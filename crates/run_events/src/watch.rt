@@ -92,8 +92,8 @@ impl Watch {
         }
     }
 
-    /// Some seconds more, one at least, with these cards accepted in them: what has ended with the second before them is
-    /// noted, driving without a card first. Before that the block of the minute is added that ends with them.
+    /// Some seconds more, one at least, with these cards accepted in them: what has ended with the second before them
+    /// is noted, driving without a card first. Before that the block of the minute is added that ends with them.
     ///
     /// # Errors
     ///

@@ -207,8 +207,8 @@ IsRefusedAlone start before after old new
 
 -- ---- what its call says of failures
 
--- WHATEVER FAILS: so many writes begin at most on the unit, where failed calls have cut its power so often, and it keeps
--- its size
+-- WHATEVER FAILS: so many writes begin at most on the unit, where failed calls have cut its power so often, and it
+-- keeps its size
 pub record GoesAlone (start : ℕ) (items : List Item) (failed : ℕ) (U V : State) : Type 0 where
   pub most : V.clock ≤ U.clock + unit_writes start items failed
   pub unit : IsUnit V

@@ -117,8 +117,8 @@ pub fn word_in(bytes: &[u8], place: u32) -> u32
     u32::from(u16::from_be_bytes([bytes[from], bytes[from + 1]]))
 }
 
-/// Goes on over so many words in these bytes, behind so many words of a day whose first word stands at this place of the
-/// image.
+/// Goes on over so many words in these bytes, behind so many words of a day whose first word stands at this place of
+/// the image.
 fn scan_words(
     kept: u32,
     base: u32,

@@ -190,7 +190,8 @@ impl Journal {
         ensures kept { OnOk result ((self.new.kept ≡ coming.minute) × (self.new.odometer ≡ coming.odometer)) }
         ensures same { OnErr result (self.new ≡ self.old) }
         ensures shape { IsNotes self.old }
-        ensures puts { PutsBy (M.state unit.old) (M.state unit.new) (is_err result) 5 keep_most (renewing self.old coming) }
+        ensures puts { PutsBy (M.state unit.old) (M.state unit.new) (is_err result) 5 keep_most
+            (renewing self.old coming) }
     {
         let head = new_head(coming);
         let room = self.days.room(unit)?;
@@ -228,7 +229,8 @@ impl Journal {
     /// minute.
     ///
     /// A stop at a moment of the call leaves the days before, their oldest gone where a further day begins, or the days
-    /// with the minute: the last-kept minute tells which. It begins at most seven writes, or twelve where it begins a day.
+    /// with the minute: the last-kept minute tells which. It begins at most seven writes, or twelve where it begins a
+    /// day.
     ///
     /// # Errors
     ///

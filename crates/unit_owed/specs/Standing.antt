@@ -35,7 +35,8 @@ RowStands start rows last r = (number_in rows r ≡ number_in (rows_in start) r)
 
 -- no two rows are empty
 abbrev pub HasOneEmpty : List ℕ → Type 0
-HasOneEmpty x = (r s : ℕ) → r < OWED_ROWS → s < OWED_ROWS → session_in (rows_in x) r ≡ 0 → session_in (rows_in x) s ≡ 0 → r ≡ s
+HasOneEmpty x = (r s : ℕ) → r < OWED_ROWS → s < OWED_ROWS → session_in (rows_in x) r ≡ 0
+    → session_in (rows_in x) s ≡ 0 → r ≡ s
 
 -- A ROW WAS TAKEN for a number of some: it is empty, or that number's; and it was one's of them, or empty, or no two
 -- rows were empty.
@@ -47,8 +48,9 @@ pub record IsTakenFor (mine : List ℕ → Type 0) (start rows : List ℕ) (r : 
 
 -- a number has taken no two rows: of two that it has both are one, or both were its
 abbrev pub HasOne : (number start rows : List ℕ) → Type 0
-HasOne number start rows = (r s : ℕ) → r < OWED_ROWS → s < OWED_ROWS → is_row_of number rows r ≡ true → is_row_of number rows s ≡ true →
-    (r ≡ s) ⊎ ((is_row_of number (rows_in start) r ≡ true) × (is_row_of number (rows_in start) s ≡ true))
+HasOne number start rows = (r s : ℕ) → r < OWED_ROWS → s < OWED_ROWS → is_row_of number rows r ≡ true
+    → is_row_of number rows s ≡ true
+    → (r ≡ s) ⊎ ((is_row_of number (rows_in start) r ≡ true) × (is_row_of number (rows_in start) s ≡ true))
 
 -- A ROW OF ANOTHER IS LOST: it was not empty, and no number of some had it, and it was taken for one of these.
 pub record IsLost (mine : List ℕ → Type 0) (start rows : List ℕ) (r : ℕ) : Type 0 where
