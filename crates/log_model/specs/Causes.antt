@@ -131,7 +131,8 @@ abbrev pub IsAtPowerOn : (starts : Bool) → Break → Type 0
 IsAtPowerOn starts (Cut second kept failed begun) = Unit {0}
 IsAtPowerOn starts (Tear second slot failed begun late) = begun ≡ 0 → late ≡ false → starts ≡ true
 
--- a break stands in its second so: before any action only where power began with that
+-- a tear before any action of its second, and not in the keeping, is in one with which power began; of a cut nothing is
+-- said
 abbrev pub HasMoment : List ToldSecond → Break → Type 0
 HasMoment told b = (t : ToldSecond) → Contains told t → t.second.number ≡ second_of b → IsAtPowerOn t.starts b
 

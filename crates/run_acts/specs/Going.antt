@@ -33,7 +33,7 @@ largest_number = 2 ^ 32 - 1
 abbrev pub first_second : ℕ
 first_second = 86400
 
--- and up to this one, the end of the last day whose end is told in four bytes
+-- and before this one: a day after each of them is told in four bytes still
 abbrev pub end_of_seconds : ℕ
 end_of_seconds = 2 ^ 32 - 86400
 

@@ -43,13 +43,13 @@ abbrev pub finds_due : (lit : Bool) → Cabin → ℕ
 finds_due true cabin = 0
 finds_due false cabin = bare_seats cabin.slots.seats
 
--- the minutes and `off` lines that can have a cut lie from here on: between two seconds
+-- the number of the first minute that can still have a cut, as it is between two seconds
 abbrev pub cuts_from : Power → ℕ → ℕ
 cuts_from Lit next = next / 60
 cuts_from Due next = next / 60
 cuts_from Lost next = (next + 59) / 60
 
--- and within a second: where power is lost in it, from the next minute on
+-- and as it is within a second: where power is lost in it, that of the next minute
 abbrev pub cuts_within : Power → ℕ → ℕ
 cuts_within Lit next = next / 60
 cuts_within Due next = next / 60

@@ -22,7 +22,8 @@ use trace_model::Card;
 /// # Errors
 ///
 /// `Begun` where the session has kept a minute, with the first such; else `NotFree` where the minute is not later than
-/// the card's newest one or not before the insertion, with both; else `Full` where it holds eight.
+/// the newest one of the card and of the session's entries by hand, or not before the insertion, with both; else `Full`
+/// where it holds eight.
 pub fn may_enter(run: &Run, slot: Slot, minute: u16) -> Result<(), SlotFault>
     ensures { result_err result ≡ stop_of slot minute run.now }
 {

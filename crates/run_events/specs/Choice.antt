@@ -42,7 +42,7 @@ pub record IsTornIn (t : Tearing) (x : Seen) : Type 0 where
   pub put_in : (n : ℕ) (slot : Slot) → entered_at x (In (suc n)) slot ≡ true
       → is_first t (number_of x) (suc n) slot ≡ false
 
--- of the seconds from a number on nothing is chosen yet: no card was torn out as an interruption was noted
+-- in the seconds from a number on no card was torn out as an interruption was noted
 abbrev pub IsPlainFrom : ℕ → Tearing → Type 0
 IsPlainFrom n t = (u : ℕ) → n ≤ u → (slot : Slot) → t.by_gap u slot ≡ false
 

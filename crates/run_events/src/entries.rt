@@ -86,7 +86,7 @@ pub fn card_driving(second: u32, crew: Crew) -> UnitEvent
     event(INSERTION_WHILE_DRIVING, LAST_OF_DAY, at(second), crew, crew)
 }
 
-/// A card was accepted in a second whose session was left open since an earlier one.
+/// A card whose session was left open since an earlier second was accepted in this one.
 pub fn card_unclosed(session: u32, second: u32, crew: Crew) -> UnitEvent
     ensures { result ≡ entry_of SESSION_NOT_CLOSED session second crew crew }
 {

@@ -55,7 +55,7 @@ fn kept_of(minute: &Minute, present: Present, stored: u32) -> KeptMinute
 #[derive(Clone, Copy)]
 pub struct MinutesDecided<D> {
     pub decided: D,
-    /// The moment in which the last of them was decided, as a tear tells it.
+    /// The moment of their keeping, as a tear tells it.
     pub at: Moment,
 }
 

@@ -14,13 +14,13 @@ use Rattle.run_devices.specs.log_model.Course.{before_next, not_begun, went}
 use Rattle.run_devices.specs.note_model.Done.{course_powered}
 use Rattle.run_devices.specs.note_model.Noted.{accepted_card}
 
--- a move: the second in which a card is put in, or taken out where `out` is set
+-- a move: the second in which a card is put in, or meets power in its slot; or is taken out, where `out` is set
 pub record Move : Type 0 where
   pub second : ℕ
   pub card : Card
   pub out : Bool
 
--- a card is put in in this second
+-- a card is put in in this second, or meets power in its slot
 abbrev pub goes_in : (second : ℕ) → Card → Move
 goes_in u card = record { second = u; card = card; out = false }
 

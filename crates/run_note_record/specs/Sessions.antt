@@ -32,7 +32,8 @@ accepted_then false failed was u = was
 accepted_then true false was u = u ∷ []
 accepted_then true true was u = was ++ 0 ∷ [] ++ u ∷ []
 
--- behind a withdrawal it tells of none; where a call failed, or of one that it may have told
+-- behind its own withdrawal a card tells of none; where a call failed, or of one that it may have told; another's
+-- withdrawal leaves what it may tell
 abbrev pub withdrawn_then : (mine failed : Bool) → List ℕ → List ℕ
 withdrawn_then false failed was = was
 withdrawn_then true false was = 0 ∷ []

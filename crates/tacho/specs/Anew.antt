@@ -36,14 +36,15 @@ pub record MayBeAnew (card_b : List ℕ) (old : Devices) : Type 0 where
   pub card_tells : is_some old.card_a.image ≡ true
   pub of_b : BeginsAs card_b old.card_b
 
--- so a run of these items begins: card b started with this image alone, the other two told one, and no clock has come
--- to its end
+-- so a run of these items may begin: card b started with this image alone, the other two told one, no clock has come to
+-- its end, and the items are no more than fit four bytes
 pub record BeginsAnew (card_b : List ℕ) (items : List Item) (old now : Devices) : Type 0 where
   pub may : MayBeAnew card_b old
   pub time : HaveTime now
   pub few : length items ≤ largest_number
 
--- unit and card a can be made new, the card of this image, and card b has a card's size
+-- unit and card a can be made new, the card of this image: it has a card's size and nothing behind; and card b has at
+-- least a card's size
 pub record MayBeMade (card : List ℕ) (old : Devices) : Type 0 where
   pub unit : IsUnit old.unit
   pub image : length card ≡ LARGEST_IMAGE

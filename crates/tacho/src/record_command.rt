@@ -25,8 +25,9 @@ use trace_text::{Form, read_trace};
 /// # Errors
 ///
 /// Before a device is used: `ReadFault`, `BadTrace` and `TooLong` as `read_trace` tells of the source, and `Memory`.
-/// From the opening of the run: `MediumFault`, `BadUnit`, `ClockBack` and `SameCard` as `run_trace` tells. `WriteFault`
-/// where the sink failed, and the trace is recorded.
+/// From the opening of the run: `MediumFault`, `BadUnit`, `ClockBack` and `SameCard` as `run_trace` tells; `BadUnit` and
+/// `ClockBack` also of a unit that is read anew at a power-on. `WriteFault` where the sink failed, and the trace is
+/// recorded.
 pub fn record<S: Source, K: Sink, U: Medium, C: Chip>(
     alloc: Global,
     source: &mut S,
