@@ -72,11 +72,13 @@ returns-then-not-is_lit-clause-behind g c = record {
 pub returns-clause-behind : goal.returns-clause-behind
 returns-clause-behind g c = c.act_lit.ensures.behind
 
-pub act_lit-requires-clause-may : goal.act_lit-requires-clause-may
-act_lit-requires-clause-may g c = record {
-  lit = lit-is c.args.run.now.power (sym c.is_lit.ensures ∙ c.if-not-is_lit.false);
-  going = c.requires.may.going;
-  room = c.requires.may.room;
+pub act_lit-requires : goal.act_lit-requires
+act_lit-requires g c = record {
+  may = record {
+    lit = lit-is c.args.run.now.power (sym c.is_lit.ensures ∙ c.if-not-is_lit.false);
+    going = c.requires.may.going;
+    room = c.requires.may.room;
+  };
 }
 
 -- ---- where no tear of a failed call is told no card has broken down

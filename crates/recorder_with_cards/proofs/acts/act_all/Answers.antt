@@ -62,19 +62,21 @@ module _ (g : Over) (c : After-act_item g) where
       (actions-then I so (action_of item) (i - from) c.number_of.result c.args.due.speed c.args.run.now c.loop-i.run c.act_item.new.run c.args.outcome.now c.loop-i.outcome c.act_item.new.outcome dev0 dev1 dev2
       (omega (arith, number, now)) c.loop-i.invariant.next (later-time c.act_item.ensures.goes.later) (were before (omega (arith, few, low))) is))
 
-pub act_item-requires-clause-may : goal.act_item-requires-clause-may
-act_item-requires-clause-may g c = record {
-  going = c.loop-i.invariant.going;
-  dark = c.loop-i.invariant.dark;
-  room =
-      let run = c.args.run.now in
-      let o = c.args.outcome.now in
-      let items = c.args.due.items.now in
-      let less : c.loop-i.i < c.args.due.to = c.loop-i-test.true in
-      let all = insertions_in c.args.due.from c.args.due.to items in
-      let here = first-in items c.loop-i.i c.args.due.to c.get.result.now c.get.ensures less in
-      room-less cuts_within c.loop-i.run c.loop-i.outcome 1 1 0 0 (insertions_in c.loop-i.i c.args.due.to items + 0) (insertion_count c.get.result.now) (c.args.due.to - c.loop-i.i + 0) 1 (omega arith) (omega arith) (omega (arith, here)) (omega (arith, less))
-      (c.loop-i.invariant.room 0 0 0 0 (room-less cuts_within run o 1 1 0 0 all (all + 0) (c.args.due.to - c.args.due.from) (c.args.due.to - c.args.due.from + 0) (omega arith) (omega arith) (omega arith) (omega arith) c.requires.may.room));
+pub act_item-requires : goal.act_item-requires
+act_item-requires g c = record {
+  may = record {
+    going = c.loop-i.invariant.going;
+    dark = c.loop-i.invariant.dark;
+    room =
+        let run = c.args.run.now in
+        let o = c.args.outcome.now in
+        let items = c.args.due.items.now in
+        let less : c.loop-i.i < c.args.due.to = c.loop-i-test.true in
+        let all = insertions_in c.args.due.from c.args.due.to items in
+        let here = first-in items c.loop-i.i c.args.due.to c.get.result.now c.get.ensures less in
+        room-less cuts_within c.loop-i.run c.loop-i.outcome 1 1 0 0 (insertions_in c.loop-i.i c.args.due.to items + 0) (insertion_count c.get.result.now) (c.args.due.to - c.loop-i.i + 0) 1 (omega arith) (omega arith) (omega (arith, here)) (omega (arith, less))
+        (c.loop-i.invariant.room 0 0 0 0 (room-less cuts_within run o 1 1 0 0 all (all + 0) (c.args.due.to - c.args.due.from) (c.args.due.to - c.args.due.from + 0) (omega arith) (omega arith) (omega arith) (omega arith) c.requires.may.room));
+  };
 }
 
 pub loop-i-init : goal.loop-i-init

@@ -19,11 +19,13 @@ use Rattle.run_minutes.proofs.Later.{later-same}
 use Rattle.recorder_with_cards.proofs.Writes.{writes-none}
 use Rattle.recorder_with_cards.proofs.acts.act_item.Goals as goal
 
-pub act-requires-clause-may : goal.act-requires-clause-may
-act-requires-clause-may g c = record {
-  going = c.requires.may.going;
-  dark = c.requires.may.dark;
-  room = subst (λ (k : ℕ). HasRoomWithin c.args.run.now c.args.outcome.now 1 0 k 1) (ap insertion_count c.in-Act.is ∙ count-is c.in-Act.action) c.requires.may.room;
+pub act-requires : goal.act-requires
+act-requires g c = record {
+  may = record {
+    going = c.requires.may.going;
+    dark = c.requires.may.dark;
+    room = subst (λ (k : ℕ). HasRoomWithin c.args.run.now c.args.outcome.now 1 0 k 1) (ap insertion_count c.in-Act.is ∙ count-is c.in-Act.action) c.requires.may.room;
+  };
 }
 
 pub returns-in-Act-clause-behind : goal.returns-in-Act-clause-behind
