@@ -8,7 +8,7 @@ use link_session::{LinesFault, ServeFault};
 use run_model::Device;
 
 /// The end by what a service answers.
-pub fn service_end(done: Result<(), ServeFault>) -> Fault
+pub fn serve_end(done: Result<(), ServeFault>) -> Fault
     ensures { result ≡ end_of_service done }
 {
     match done {

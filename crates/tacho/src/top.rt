@@ -21,7 +21,7 @@ use crate::minutes_command::print_minutes;
 use crate::packets_command::packets_end;
 use crate::reading_command::print_reading;
 use crate::record_command::record;
-use crate::serve_command::{lines_end, service_end};
+use crate::serve_command::{lines_end, serve_end};
 use crate::state_command::print_state;
 use crate::upgrade_command::upgrade_unit;
 use crate::words::Words;
@@ -153,12 +153,9 @@ fn perform<S: Peer<K>, K: Sink, F: Sink, U: Medium, C: Chip>(
             let told = devices_state(unit, card_a, card_b);
             Ended::by_answer(alloc, print_state(alloc, &told, sink))
         }
-        Form::Serve => Ended::by_fault(alloc, service_end(serve(source, sink, unit))),
+        Form::Serve => Ended::by_fault(alloc, serve_end(serve(source, sink, unit))),
         Form::ServeHex => Ended::by_fault(alloc, lines_end(serve_lines(alloc, source, sink, unit))),
-        Form::ServePackets => Ended::by_fault(
-            alloc,
-            service_end(serve_packets(source, sink, unit)),
-        ),
+        Form::ServePackets => Ended::by_fault(alloc, serve_end(serve_packets(source, sink, unit))),
         Form::DownloadPackets => Ended::by_fault(
             alloc,
             packets_end(download_packets(alloc, source, sink, file)),

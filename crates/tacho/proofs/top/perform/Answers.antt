@@ -26,7 +26,7 @@ pub returns-in-Serve-clause-does : goal.returns-in-Serve-clause-does
 returns-in-Serve-clause-does g c = record {
   ends =
       let e = c.serve.ensures in
-      rw (c.in-Serve.is, c.by_fault.ensures.2, c.service_end.ensures)
+      rw (c.in-Serve.is, c.by_fault.ensures.2, c.serve_end.ensures)
       (serve-ends _ _ c.serve.result e.served e.end e.cause e.unit e.counts c.by_fault.ensures.0 c.by_fault.ensures.1);
   spares = rw c.in-Serve.is (record { others = (refl, refl); cards = λ is. absurd (cc); before = λ none. absurd none; nothing = λ none. absurd none; unprinted = λ none. absurd none });
 }
@@ -44,7 +44,7 @@ pub returns-in-ServePackets-clause-does : goal.returns-in-ServePackets-clause-do
 returns-in-ServePackets-clause-does g c = record {
   ends =
       let e = c.serve_packets.ensures in
-      rw (c.in-ServePackets.is, c.by_fault-in-ServePackets.ensures.2, c.service_end-in-ServePackets.ensures)
+      rw (c.in-ServePackets.is, c.by_fault-in-ServePackets.ensures.2, c.serve_end-in-ServePackets.ensures)
       (serve-packets-ends _ _ c.serve_packets.result e.served e.end e.cause e.unit e.counts c.by_fault-in-ServePackets.ensures.0 c.by_fault-in-ServePackets.ensures.1);
   spares = rw c.in-ServePackets.is (record { others = (refl, refl); cards = λ is. absurd (cc); before = λ none. absurd none; nothing = λ none. absurd none; unprinted = λ none. absurd none });
 }
