@@ -1,27 +1,24 @@
 -- What each entry by hand of a first keep leaves, all of them leave, and each of their moments.
-use Rattle.std.proofs.Common.{◌≡◌, ◌∙◌, inl, inr, ⊎_elim, ℕ, ◌+◌, ◌*◌, ◌/◌, ◌<◌, ◌≤◌, Bool, true, false, Some, List, [], ◌∷◌, refl, sym, ap, subst, arith}
-use Rattle.std.specs.Prelude.{◌⊎◌, nat_eq}
+use Rattle.std.proofs.Common.{◌≡◌, ◌∙◌, inl, inr, ℕ, ◌/◌, ◌<◌, true, false, Some, List, [], ◌∷◌, sym, ap, subst, arith}
 use Rattle.std.proofs.lemmas.Bool.{eq-eqb}
 use Rattle.activity_codec.specs.declared.entries.Manual.{Manual}
 use Rattle.tach_media.specs.card_layout.declared.files.Application.{Application}
 use Rattle.tach_media.specs.card_layout.Application.{IsApplication}
-use Rattle.card_session.specs.card_model.Days.{Day, AreDays, total}
+use Rattle.card_session.specs.card_model.Days.{Day, total}
 use Rattle.card_session.specs.card_model.Changes.{date_of}
 use Rattle.card_session.specs.card_model.Image.{newest_pointer}
 use Rattle.card_session.specs.card_retention.Expected.{is_newest}
 use Rattle.card_session.specs.card_retention.Shown.{sizes}
-use Rattle.card_session.specs.card_days.declared.head.Tail.{Tail}
-use Rattle.card_session.specs.card_days.Held.{Held, tail_in}
+use Rattle.card_session.specs.card_days.Held.{tail_in}
 use Rattle.card_session.proofs.card_days.Tails.{told_some}
 use Rattle.hand_model.specs.card_image.Fields.{card_days, end_mark}
-use Rattle.hand_model.specs.Holding.{LieBetween, AreOfDay}
+use Rattle.hand_model.specs.Holding.{LieBetween}
 use Rattle.hand_model.proofs.OfDay.{spans}
 use Rattle.card_session.specs.Telling.{is_newest_day}
-use Rattle.card_session.specs.Sessions.{Session, IsSession, KnowsCard, book_of}
+use Rattle.card_session.specs.Sessions.{Session, IsSession, book_of}
 use Rattle.card_session.specs.ByHand.{IsCardByHand, IsCardEntering, EndsByHand}
 use Rattle.card_session.proofs.Following.{day_told}
-use Rattle.card_session.proofs.Stopping.{book_days, days_there}
-use Rattle.card_by_hand.specs.Clear.{BeginsLater}
+use Rattle.card_session.proofs.Stopping.{book_days}
 use Rattle.card_by_hand.specs.First.{Follows, AreEntered, IsEntering, MayFollow, AreHandsOf}
 use Rattle.card_by_hand.proofs.Chain.{ends_on}
 

@@ -1,18 +1,16 @@
 -- Entries by hand one after the other, and a keep behind them.
-use Rattle.std.proofs.Common.{◌≡◌, ◌∙◌, inl, inr, ⊎_elim, ℕ, ◌+◌, ◌/◌, ◌*◌, ◌<◌, ◌≤◌, Bool, true, false, List, [], ◌∷◌, ◌++◌, length, take, drop, get_or, Some, IfSome, refl, sym, ap, subst, arith}
-use Rattle.std.specs.Prelude.{◌⊎◌}
+use Rattle.std.proofs.Common.{◌≡◌, ◌∙◌, inl, inr, ⊎_elim, ℕ, ◌+◌, ◌/◌, ◌*◌, ◌<◌, Bool, true, false, List, [], ◌∷◌, ◌++◌, length, take, drop, get_or, refl, sym, ap, subst}
 use Rattle.std.proofs.lemmas.List.{drop_more, take_more, take-append-drop}
 use Rattle.activity_codec.specs.declared.entries.Entry.{Entry}
 use Rattle.activity_codec.specs.declared.entries.Manual.{Manual}
-use Rattle.tach_media.specs.Medium.{State, LeavesOnly, HasCause}
-use Rattle.tach_media.proofs.Runs.{weaken}
+use Rattle.tach_media.specs.Medium.{State, HasCause}
 use Rattle.hand_model.proofs.OfDay.{none}
 use Rattle.card_session.specs.Sessions.{Session, IsSession}
 use Rattle.card_session.specs.Cards.{IsCardKept, IsCardKeeping}
 use Rattle.card_session.specs.Parts.{DoesPart}
 use Rattle.card_session.specs.ByHand.{IsCardByHand, IsCardEntering, EndsByHand}
-use Rattle.card_session.proofs.Composing.{parts_then, part_as, part_failed, part_none}
-use Rattle.card_by_hand.specs.First.{Follows, AreEntered, IsEntering, IsFirstKept, IsKeepingBehind, IsFirstKeeping, HasEntered, MayBeEntering}
+use Rattle.card_session.proofs.Composing.{parts_then, part_as, part_none}
+use Rattle.card_by_hand.specs.First.{Follows, AreEntered, IsEntering, IsFirstKept, IsFirstKeeping, HasEntered, MayBeEntering}
 
 -- one more behind them
 pub entered_more : (es : List Manual) (e : Manual) (s t u : Session) (x z y : List ℕ) → AreEntered es s t x z → Follows t u e → IsCardByHand t u e z y → AreEntered (es ++ e ∷ []) s u x y

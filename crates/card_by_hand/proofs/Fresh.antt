@@ -1,6 +1,6 @@
 -- A session's first keep on a card whose end mark lies in a later day than its newest day: its first entry by hand begins that day, of which a
 -- repair leaves the first word alone.
-use Rattle.std.proofs.Common.{◌≡◌, ◌∙◌, inl, inr, ⊎_elim, ℕ, suc, ◌+◌, ◌-◌, ◌*◌, ◌/◌, ◌%◌, ◌<◌, ◌≤◌, max, Bool, true, false, cond, List, [], ◌∷◌, ◌++◌, length, length-append, refl, sym, ap, subst, arith}
+use Rattle.std.proofs.Common.{◌≡◌, ◌∙◌, inl, inr, ⊎_elim, ℕ, ◌+◌, ◌-◌, ◌*◌, ◌/◌, ◌%◌, ◌<◌, ◌≤◌, Bool, true, false, cond, List, [], ◌∷◌, ◌++◌, length, length-append, refl, sym, ap, subst, arith}
 use Rattle.std.specs.Prelude.{◌⊎◌, nat_eq, nat_lt}
 use Rattle.std.proofs.lemmas.Bool.{le-leb}
 use Rattle.std.proofs.lemmas.Bool.Decides.{nat_tests}
@@ -10,9 +10,8 @@ use Rattle.activity_codec.specs.declared.entries.Manual.{Manual}
 use Rattle.card_session.specs.tacho_types.declared.texts.Registration.{Registration}
 use Rattle.tach_media.specs.card_layout.declared.files.Application.{Application}
 use Rattle.tach_media.specs.card_layout.Application.{IsApplication}
-use Rattle.tach_media.specs.card_layout.Files.{image_size_of}
 use Rattle.card_session.specs.card_model.Days.{Day, AreDays, IsDay, len_of}
-use Rattle.card_session.specs.card_model.Changes.{Remain, fitting, with_newest, with_word, with_km, with_early, early, cut, new_day, date_of, trimmed}
+use Rattle.card_session.specs.card_model.Changes.{Remain, fitting, with_newest, with_word, with_km, with_early, cut, new_day, date_of, trimmed}
 use Rattle.card_session.proofs.card_model.Retention.{remain_all, remain_then, remain_fitting}
 use Rattle.card_session.proofs.card_model.Trims.{Behind, trimmed_word, with_last}
 use Rattle.card_session.specs.card_retention.Expected.{WordDay, is_newest}
@@ -23,13 +22,12 @@ use Rattle.card_session.proofs.card_retention.Growing.{sizes_append}
 use Rattle.card_session.proofs.card_retention.Listing.{Lists, lists_left}
 use Rattle.card_session.proofs.card_retention.ListTrims.{cut_entries}
 use Rattle.card_session.proofs.card_retention.Stops.{are_left}
-use Rattle.hand_model.specs.card_image.Fields.{card_days, end_mark, session_time}
+use Rattle.hand_model.specs.card_image.Fields.{card_days, end_mark}
 use Rattle.hand_model.specs.card_image.Judging.{IsValid}
 use Rattle.hand_model.specs.Manual.{manual_word}
-use Rattle.hand_model.proofs.OfDay.{spans}
 use Rattle.hand_model.proofs.Words.{minute_is}
-use Rattle.card_session.specs.Books.{Book, mark_of, bare_word, entry_word, day_words, with_change, tells_state, gap_closed, entered_days, with_new_day, km_after, travelled, with_entry}
-use Rattle.card_session.specs.Sessions.{Session, IsSession, EndsStrictly, book_of}
+use Rattle.card_session.specs.Books.{mark_of, bare_word, entry_word, day_words, with_change, tells_state, gap_closed, entered_days, with_new_day, km_after, travelled, with_entry}
+use Rattle.card_session.specs.Sessions.{Session, EndsStrictly, book_of}
 use Rattle.card_session.specs.Moments.{IsBeforeWords, IsBeforeMark, IsKeepMoment}
 use Rattle.card_session.specs.Cards.{IsCard, IsCardKeeping, grown}
 use Rattle.card_session.specs.Parts.{IsBeforeGapOf}
@@ -40,16 +38,16 @@ use Rattle.card_session.proofs.Marks.{mark_told}
 use Rattle.card_session.proofs.OnMark.{IsBegunOn, all_before, before_left, begun_strict, cut_first, bare_tells, none_day, entries_more, entries_same}
 use Rattle.card_session.proofs.Stopping.{asked_at, book_days, days_there}
 use Rattle.card_session.proofs.Surviving.{strict_survives}
-use Rattle.card_session.proofs.Valid.{keep_valid, valid_open, valid_strict, above_zero}
+use Rattle.card_session.proofs.Valid.{keep_valid, valid_open, valid_strict}
 use Rattle.card_by_hand.specs.Over.{IsBegunOver, BeginsOver}
-use Rattle.card_by_hand.specs.First.{Follows, AreEntered, IsEntering, IsKeepingBehind, IsFirstKeeping, MayCome, MayFollow, AreHandsOf, IsFreshFor}
+use Rattle.card_by_hand.specs.First.{Follows, AreEntered, IsEntering, IsFirstKeeping, MayCome, MayFollow, AreHandsOf, IsFreshFor}
 use Rattle.card_by_hand.proofs.Along.{behind_one, newest_known, rest_hands}
-use Rattle.card_by_hand.proofs.Card.{still, base_is, are, late, shut_there}
+use Rattle.card_by_hand.proofs.Card.{still, base_is, late, shut_there}
 use Rattle.card_by_hand.proofs.Chain.{ends_on}
-use Rattle.card_by_hand.proofs.Over.{remain_weaker, Undayed, undayed}
+use Rattle.card_by_hand.proofs.Over.{remain_weaker, undayed}
 use Rattle.card_by_hand.proofs.Silent.{silent_stays}
 use Rattle.card_by_hand.proofs.Staying.{few_words, late_of, some_open}
-use Rattle.card_by_hand.proofs.FirstLaws.{IsSame, same_first, same_moment, ended, app_of, entering_same, past_same, Shows, Tells, MayBeValid, follow_valid, first_entry, first_mark, GoesOnBehind, first_or_behind, shut_known}
+use Rattle.card_by_hand.proofs.FirstLaws.{IsSame, same_first, same_moment, ended, app_of, past_same, MayBeValid, follow_valid, first_entry, first_or_behind, shut_known}
 
 apart : (m n : ℕ) → n < m → nat_eq m n ≡ false
 apart m n lt = grind (arith, nat_tests)

@@ -1,11 +1,9 @@
 -- An entry by hand tells no minute of the card: where none behind the end mark told one, none does.
-use Rattle.std.proofs.Common.{◌≡◌, ◌∙◌, inl, inr, ⊎_elim, ℕ, ◌+◌, ◌-◌, ◌*◌, ◌/◌, ◌%◌, ◌<◌, ◌≤◌, Bool, true, false, cond, Option, Some, None, List, [], ◌∷◌, ◌++◌, length, refl, sym, ap, subst, arith}
+use Rattle.std.proofs.Common.{◌≡◌, ◌∙◌, ⊎_elim, ℕ, ◌+◌, ◌-◌, ◌*◌, ◌/◌, ◌%◌, ◌<◌, Bool, true, false, cond, Option, Some, None, List, [], ◌∷◌, ◌++◌, length, refl, sym, ap, subst}
 use Rattle.std.specs.Prelude.{◌⊎◌, nat_eq, nat_le}
 use Rattle.activity_codec.proofs.ByTest.{by_test}
 use Rattle.activity_codec.specs.Words.{word_minute, word_absent}
-use Rattle.activity_codec.specs.declared.entries.Entry.{Entry}
 use Rattle.activity_codec.specs.declared.entries.Manual.{Manual}
-use Rattle.tach_media.specs.card_layout.declared.files.Application.{Application}
 use Rattle.card_session.specs.card_model.Days.{Day}
 use Rattle.card_session.specs.card_model.Changes.{Remain, fitting, with_newest, with_word, new_day, date_of}
 use Rattle.card_session.proofs.card_model.Retention.{remain_fitting}
@@ -16,7 +14,7 @@ use Rattle.hand_model.specs.card_image.Fields.{card_days, end_mark}
 use Rattle.hand_model.specs.Manual.{manual_word}
 use Rattle.hand_model.proofs.Words.{absent_is}
 use Rattle.card_session.specs.Books.{bare_word, with_change}
-use Rattle.card_session.specs.Sessions.{Session, IsSession, book_of}
+use Rattle.card_session.specs.Sessions.{Session, book_of}
 use Rattle.card_session.specs.Overwriting.{IsSilentBehind}
 use Rattle.card_session.specs.ByHand.{IsCardEntering, words_from, with_day_from, with_word_at, word_len}
 use Rattle.card_session.proofs.Stopping.{book_days}

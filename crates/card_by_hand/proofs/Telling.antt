@@ -1,5 +1,5 @@
 -- At each moment of a session's first keep a card's days tell of the entries by hand so far those whose day is there.
-use Rattle.std.proofs.Common.{◌≡◌, ◌∙◌, inl, inr, ⊎_elim, ℕ, ◌+◌, ◌-◌, ◌/◌, ◌<◌, ◌≤◌, Bool, true, false, List, [], ◌∷◌, ◌++◌, refl, sym, ap, subst, arith, append_assoc, append-nil}
+use Rattle.std.proofs.Common.{◌≡◌, ◌∙◌, inl, inr, ℕ, ◌-◌, ◌/◌, ◌<◌, ◌≤◌, true, false, List, [], ◌∷◌, ◌++◌, sym, ap, subst, arith, append_assoc, append-nil}
 use Rattle.std.specs.Prelude.{◌⊎◌}
 use Rattle.activity_codec.specs.declared.entries.Entry.{Entry}
 use Rattle.activity_codec.specs.declared.entries.Manual.{Manual}
@@ -15,16 +15,16 @@ use Rattle.hand_model.specs.ByHand.{TellsHands, HandsBefore}
 use Rattle.hand_model.proofs.OfDay.{spans}
 use Rattle.card_session.specs.Books.{mark_of, gap_closed}
 use Rattle.card_session.specs.Cards.{IsCardKeeping, grown}
-use Rattle.card_session.specs.Sessions.{Session, IsSession, book_of}
+use Rattle.card_session.specs.Sessions.{Session, book_of}
 use Rattle.card_session.specs.ByHand.{IsCardByHand, IsCardEntering, with_word_at, word_len}
 use Rattle.card_session.proofs.Marks.{mark_told}
 use Rattle.card_session.proofs.Preparing.{gap_are}
 use Rattle.card_session.proofs.Stopping.{asked_at, book_days, days_there}
 use Rattle.card_session.proofs.Surviving.{newest_gapped}
-use Rattle.card_by_hand.specs.First.{Follows, AreEntered, IsEntering, IsKeepingBehind, IsFirstKeeping, MayTell, AreHandsOf}
+use Rattle.card_by_hand.specs.First.{Follows, AreEntered, IsEntering, IsFirstKeeping, MayTell, AreHandsOf}
 use Rattle.card_by_hand.proofs.Along.{newest_known, rest_hands}
 use Rattle.card_by_hand.proofs.Chain.{ends_on}
-use Rattle.card_by_hand.proofs.FirstLaws.{entering_same, past_same, same_there}
+use Rattle.card_by_hand.proofs.FirstLaws.{entering_same, past_same}
 use Rattle.card_by_hand.proofs.Staying.{late_of}
 use Rattle.card_by_hand.proofs.Told.{tells_drops, tells_more, tells_still, keep_tells}
 

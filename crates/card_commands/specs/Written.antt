@@ -1,5 +1,5 @@
 -- The bytes of a command as a unit writes it.
-use Rattle.std.specs.Prelude.{ℕ, ◌+◌, ◌/◌, ◌%◌, ◌<◌, ◌≤◌, Result, Ok, Err, List, [], ◌∷◌, ◌++◌, length}
+use Rattle.std.specs.Prelude.{ℕ, ◌/◌, ◌%◌, ◌<◌, ◌≤◌, Result, Ok, Err, List, [], ◌∷◌, ◌++◌, length}
 use Rattle.card_layout.specs.declared.command.Command.{Command}
 use Rattle.card_layout.specs.declared.command.Command.TheVariants.{Application, Select, Read, Update}
 use Rattle.card_layout.specs.Commands.{tachograph_name}

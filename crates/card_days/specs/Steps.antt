@@ -7,7 +7,7 @@ use Rattle.card_model.specs.Bytes.{two_bytes}
 use Rattle.card_model.specs.Days.{Day, total}
 use Rattle.card_model.specs.Changes.{with_newest, with_km}
 use Rattle.card_days.specs.Held.{Held, Knows}
-use Rattle.card_model.specs.Image.{StringShape, HoldsDays, IsPointer, at, oldest_pointer, spot}
+use Rattle.card_model.specs.Image.{StringShape, HoldsDays, at, oldest_pointer, spot}
 
 -- the days without the oldest where they do not fit
 abbrev pub roomier : ℕ → List Day → List Day

@@ -1,9 +1,9 @@
 -- The counts of some entries, and of one more.
-use Rattle.std.proofs.Common.{◌≡◌, ◌≢◌, ◌∙◌, ℕ, ◌+◌, ◌≤◌, ◌&&◌, Bool, true, false, not, List, [], ◌∷◌, ◌++◌, cond, refl, ap, sym, arith, add-zero}
+use Rattle.std.proofs.Common.{◌≡◌, ◌∙◌, ℕ, ◌+◌, ◌≤◌, ◌&&◌, Bool, true, false, not, List, [], ◌∷◌, ◌++◌, cond, refl, ap, sym, arith, add-zero}
 use Rattle.std.specs.Prelude.{count_by}
 use Rattle.std.proofs.lemmas.List.Sums.{fold-append}
 use Rattle.activity_codec.specs.declared.entries.Entry.{Entry}
-use Rattle.card_match.specs.Matching.{Against, is_own, is_early, is_other, is_before, is_tested, stands}
+use Rattle.card_match.specs.Matching.{Against, is_own, is_early, is_other, is_before, is_tested}
 use Rattle.card_match.specs.Differences.{differs, AreCounted}
 use Rattle.card_match.specs.Cases.{IsSort, counted, total, is_missed}
 use Rattle.card_match.specs.declared.verdict.Sort.{Sort}

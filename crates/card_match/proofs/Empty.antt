@@ -1,5 +1,5 @@
 -- What stands for an element past the end.
-use Rattle.std.proofs.Common.{ℕ, None, false}
+use Rattle.std.proofs.Common.{None, false}
 use Rattle.activity_codec.specs.declared.entries.Entry.{Entry}
 use Rattle.activity_codec.specs.declared.values.Activity.TheVariants.{Rest}
 use Rattle.activity_codec.specs.declared.values.Slot.TheVariants.{Driver}

@@ -13,13 +13,13 @@ use Rattle.view_text.proofs.Texts.{lines-below}
 use Rattle.card_match.specs.Exact.{difference_exact}
 use Rattle.card_match.specs.Matching.{Against, is_tested, stands, IsMet, IsMatch}
 use Rattle.card_match.specs.Differences.{differs, difference_of, differences, same_difference, AreDifferences, first_in, first_of}
-use Rattle.card_match.specs.Files.{AnswersFiles, MatchesFiles, ComparesFiles, MatchesSource, ComparesSource}
+use Rattle.card_match.specs.Files.{MatchesFiles, ComparesFiles, MatchesSource, ComparesSource}
 use Rattle.card_match.specs.Text.{IsDated, AreDatedRuns}
 use Rattle.card_match.specs.declared.difference.Difference.{Difference}
 use Rattle.card_match.specs.declared.verdict.Counts.{Counts}
 use Rattle.card_match.specs.declared.verdict.Differences.{Differences}
 use Rattle.card_match.specs.declared.verdict.Matched.{Matched}
-use Rattle.card_match.specs.declared.verdict.Matched.TheVariants.{Yes, No}
+use Rattle.card_match.specs.declared.verdict.Matched.TheVariants.{No}
 
 -- the first entry that differs
 record Found (a : Against) (es : List Entry) : Type 0 where

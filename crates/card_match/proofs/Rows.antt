@@ -1,6 +1,6 @@
 -- Worked rows of the match, computed.
-use Rattle.std.proofs.Common.{◌≡◌, ℕ, Bool, true, false, Some, None, List, [], ◌∷◌, refl}
-use Rattle.std.specs.Prelude.{count_by, codes}
+use Rattle.std.proofs.Common.{◌≡◌, ℕ, Bool, true, false, List, [], ◌∷◌, refl}
+use Rattle.std.specs.Prelude.{codes}
 use Rattle.activity_codec.specs.declared.entries.Entry.{Entry}
 use Rattle.activity_codec.specs.declared.values.Activity.{Activity}
 use Rattle.activity_codec.specs.declared.values.Activity.TheVariants.{Rest, Available, Work, Driving}
@@ -11,15 +11,13 @@ use Rattle.view_model.specs.declared.Viewed.{Viewed}
 use Rattle.view_model.specs.declared.Line.{Line}
 use Rattle.view_model.specs.Lines.{lines_of}
 use Rattle.unit_model.specs.Days.{UnitMinute}
-use Rattle.card_match.specs.declared.cases.Use.{Use}
 use Rattle.card_match.specs.declared.difference.Instead.{Instead}
 use Rattle.card_match.specs.declared.difference.Instead.TheVariants.{NoMinute, NoCard, Doing, Crew}
 use Rattle.card_match.specs.declared.difference.Difference.{Difference}
 use Rattle.card_match.specs.Differences.{differences, same_difference}
 use Rattle.card_match.specs.Text.{difference_words}
-use Rattle.card_match.specs.declared.verdict.Matched.{Matched}
 use Rattle.card_match.specs.declared.verdict.Matched.TheVariants.{Yes, No}
-use Rattle.card_match.specs.Matching.{Against, is_own, is_other, is_early, is_before, is_tested, minute_at, stands, IsMatch}
+use Rattle.card_match.specs.Matching.{Against, is_own, is_other, is_before, is_tested, stands, IsMatch}
 
 abbrev entry : ℕ → Slot → Bool → Activity → Entry
 entry minute slot crew act = record { minute = minute; slot = slot; crew = crew; act = act }

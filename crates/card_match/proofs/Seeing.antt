@@ -13,7 +13,7 @@ use Rattle.view_model.specs.declared.Viewed.{Viewed}
 use Rattle.view_model.specs.Lines.{same_bool, day_of_minute}
 use Rattle.unit_model.specs.Days.{UnitMinute}
 use Rattle.file_view.specs.Histories.{minute_shown}
-use Rattle.card_match.specs.Matching.{Against, is_own, is_early, is_before, is_tested, minute_at, state_in, is_as, is_as_some, stands}
+use Rattle.card_match.specs.Matching.{Against, is_own, is_early, is_tested, minute_at, state_in, is_as, is_as_some, stands}
 use Rattle.card_match.specs.Differences.{instead_in, instead_of, differs, difference_of, differences}
 use Rattle.card_match.specs.Cases.{minute_of, shown_of, case_of, begins_by, is_missed, IsSort, instead_seen, difference_in, differing}
 use Rattle.card_match.specs.declared.cases.Case.{Case}

@@ -1,6 +1,5 @@
 -- The closing word, the end of a session and the opening of another, one after the other.
 use Rattle.std.proofs.Common.{◌≡◌, inl, inr, ⊎_elim, ℕ, ◌+◌, ◌≤◌, Bool, true, false, List, length, option_map, refl, sym, ◌∙◌, ap, subst, arith}
-use Rattle.std.specs.Prelude.{◌⊎◌}
 use Rattle.card_layout.proofs.Images.{put_outside}
 use Rattle.activity_codec.specs.declared.values.Activity.TheVariants.{Rest}
 use Rattle.tacho_types.specs.declared.texts.Registration.{Registration}

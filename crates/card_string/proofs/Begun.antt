@@ -1,5 +1,5 @@
 -- A keep on the day of the end mark, where that is later than each day that the string has: a stop leaves it with its first word.
-use Rattle.std.proofs.Common.{◌≡◌, ◌⊎◌, inl, inr, ⊎_elim, ℕ, suc, ◌+◌, ◌-◌, ◌*◌, ◌/◌, ◌%◌, ◌<◌, ◌≤◌, max, Bool, true, false, cond, ◌&&◌, ◌||◌, Option, Some, None, List, [], ◌∷◌, ◌++◌, length, refl, sym, ◌∙◌, ap, subst, arith}
+use Rattle.std.proofs.Common.{◌≡◌, ◌⊎◌, inl, inr, ⊎_elim, ℕ, suc, ◌+◌, ◌-◌, ◌*◌, ◌/◌, ◌%◌, ◌<◌, ◌≤◌, max, Bool, true, false, cond, ◌&&◌, Option, Some, None, List, [], ◌∷◌, ◌++◌, length, refl, sym, ◌∙◌, ap, subst, arith}
 use Rattle.std.specs.Prelude.{nat_eq, nat_lt, nat_le}
 use Rattle.std.proofs.lemmas.Bool.Decides.{nat_tests}
 use Rattle.card_by_hand.specs.activity_codec.declared.entries.Entry.{Entry}
@@ -11,14 +11,13 @@ use Rattle.card_by_hand.proofs.card_model.Retention.{remain_fitting}
 use Rattle.card_by_hand.proofs.card_model.Trims.{cut_date}
 use Rattle.card_by_hand.specs.card_retention.Expected.{WordDay, Counted, is_newest, with_entry as counted_with}
 use Rattle.card_by_hand.specs.card_retention.Shown.{Bound, AllUpTo, AllBefore, Rests, Lives, sizes, size_day}
-use Rattle.card_by_hand.specs.card_retention.Entries.{latest, told_by, entry_at, day_entries, entries_up_to, newest_word, newest_minute}
-use Rattle.card_by_hand.specs.card_retention.Retains.{is_day, entries_in, begun_on}
+use Rattle.card_by_hand.specs.card_retention.Entries.{latest, told_by, day_entries, newest_word, newest_minute}
+use Rattle.card_by_hand.specs.card_retention.Retains.{entries_in, begun_on}
 use Rattle.card_by_hand.proofs.card_retention.Closing.{kept_lives}
 use Rattle.card_by_hand.proofs.card_retention.Committing.{Quiet, Olds, told_back, commits}
 use Rattle.card_by_hand.proofs.card_retention.Growing.{sizes_append}
 use Rattle.card_by_hand.proofs.card_retention.Listing.{Lists, append_in, lists_left}
 use Rattle.card_by_hand.proofs.card_retention.ListTrims.{cut_entries}
-use Rattle.card_by_hand.proofs.card_retention.Newest.{minutes_none}
 use Rattle.card_by_hand.proofs.card_retention.Stops.{are_left, stop_none, stop_first}
 use Rattle.card_by_hand.proofs.card_retention.Stub.{trimmed_before, trimmed_stub}
 use Rattle.card_by_hand.specs.card_session.Books.{Book, mark_of, latest_of, closing_word, gap_closed, entry_word, bare_word, day_words, tells_state, with_change, with_new_day, entered_days, km_after, travelled, with_entry}

@@ -1,5 +1,5 @@
 -- A session's first keep at each of its moments, by where the end mark stands.
-use Rattle.std.proofs.Common.{◌≡◌, ◌⊎◌, inl, inr, ⊎_elim, ℕ, suc, ◌-◌, ◌/◌, ◌<◌, ◌≤◌, max, Bool, true, false, cond, Some, List, [], ◌∷◌, ◌++◌, length, refl, sym, ◌∙◌, ap, subst, arith}
+use Rattle.std.proofs.Common.{◌≡◌, ◌⊎◌, inl, inr, ⊎_elim, ℕ, suc, ◌/◌, ◌<◌, ◌≤◌, max, Bool, true, false, cond, Some, List, [], ◌∷◌, ◌++◌, length, refl, sym, ◌∙◌, ap, subst, arith}
 use Rattle.std.specs.Prelude.{nat_le}
 use Rattle.std.proofs.lemmas.Bool.Decides.{nat_tests}
 use Rattle.std.proofs.Math.Nat.{le-max_left}
@@ -7,17 +7,17 @@ use Rattle.card_by_hand.specs.activity_codec.declared.entries.Entry.{Entry}
 use Rattle.card_by_hand.specs.activity_codec.declared.entries.Manual.{Manual}
 use Rattle.tach_media.specs.card_layout.declared.files.Application.{Application}
 use Rattle.card_by_hand.specs.card_model.Days.{Day, AreDays}
-use Rattle.card_by_hand.specs.card_model.Changes.{Remain, trimmed}
+use Rattle.card_by_hand.specs.card_model.Changes.{trimmed}
 use Rattle.card_by_hand.specs.card_retention.Expected.{Counted, with_entry}
 use Rattle.card_by_hand.specs.card_retention.Entries.{last_entry, closed_at, newest_word, newest_minute}
 use Rattle.card_by_hand.specs.card_retention.Shown.{Bound, AllUpTo, AllBefore, Tells, sizes, is_open}
 use Rattle.card_by_hand.proofs.card_retention.ListTrims.{entries_trimmed, lists_trimmed}
-use Rattle.card_by_hand.specs.card_image.Fields.{card_days, end_mark, session_time}
+use Rattle.card_by_hand.specs.card_image.Fields.{card_days, end_mark}
 use Rattle.card_by_hand.specs.card_image.View.{card_view}
 use Rattle.card_by_hand.proofs.card_image.Newest.{newest_of_entries}
 use Rattle.card_by_hand.proofs.hand_model.OfDay.{spans}
 use Rattle.card_by_hand.specs.card_session.Sessions.{Session, book_of}
-use Rattle.card_by_hand.specs.card_session.Cards.{IsCardKeeping, grown}
+use Rattle.card_by_hand.specs.card_session.Cards.{grown}
 use Rattle.card_by_hand.specs.card_session.Overwriting.{DaysFollowOverwriting, ShowsEntries, BeginsBehind, TellsNoLater, and_entry}
 use Rattle.card_by_hand.proofs.card_session.InsertingBooks.{trimmed_low}
 use Rattle.card_by_hand.proofs.card_session.Marks.{mark_told}
@@ -27,7 +27,7 @@ use Rattle.card_by_hand.proofs.card_session.Committed.{keep_silent}
 use Rattle.card_by_hand.proofs.card_session.NewestStays.{newest_after}
 use Rattle.card_by_hand.proofs.card_session.Valid.{flat_of}
 use Rattle.card_by_hand.specs.Over.{IsBegunOver}
-use Rattle.card_by_hand.specs.First.{IsFirstKeeping, IsKeepingBehind, IsEntering, MayCome, MayFollow, AreHandsOf, IsFreshFor}
+use Rattle.card_by_hand.specs.First.{IsFirstKeeping, IsKeepingBehind, IsEntering, MayCome, MayFollow, IsFreshFor}
 use Rattle.card_by_hand.specs.Wider.{with_hands}
 use Rattle.card_by_hand.proofs.FirstLaws.{past_same, past_follows, first_session, first_mark, entering_same, first_shows, first_newest, first_repaired, first_entries, first_entry}
 use Rattle.card_by_hand.proofs.Fresh.{alone, follow_or_fresh, first_begins, fresh_entry}

@@ -1,5 +1,5 @@
 -- What a card's string tells of entries by hand since the start, at each moment of the calls on it.
-use Rattle.std.proofs.Common.{◌≡◌, ◌⊎◌, inl, inr, ⊎_elim, ℕ, suc, ◌+◌, ◌-◌, ◌*◌, ◌/◌, ◌%◌, ◌<◌, ◌≤◌, max, Bool, true, false, cond, List, [], ◌∷◌, ◌++◌, append_assoc, append-nil, length, refl, sym, ◌∙◌, ap, subst, arith}
+use Rattle.std.proofs.Common.{◌≡◌, ◌⊎◌, inl, inr, ⊎_elim, ℕ, suc, ◌+◌, ◌-◌, ◌*◌, ◌/◌, ◌<◌, ◌≤◌, max, Bool, true, false, cond, List, [], ◌∷◌, ◌++◌, append_assoc, length, refl, sym, ◌∙◌, ap, subst, arith}
 use Rattle.std.specs.List.{AllByRecursion}
 use Rattle.std.specs.Prelude.{◌&&◌, not, nat_eq}
 use Rattle.std.proofs.lemmas.Bool.{cases_lt}
@@ -14,18 +14,16 @@ use Rattle.tach_media.specs.card_layout.Application.{IsApplication}
 use Rattle.tach_media.specs.card_layout.Files.{place_of, image_size_of}
 use Rattle.card_by_hand.specs.gated_ring.Ring.{PointsInside}
 use Rattle.card_by_hand.specs.card_model.Days.{Day, AreDays, last_word}
-use Rattle.card_by_hand.specs.card_model.Changes.{Remain, fitting, date_of, trimmed}
+use Rattle.card_by_hand.specs.card_model.Changes.{fitting, date_of, trimmed}
 use Rattle.card_by_hand.proofs.card_model.Ascending.{words_below}
 use Rattle.card_by_hand.proofs.card_model.Retention.{remain_fitting}
 use Rattle.card_by_hand.proofs.card_model.Trims.{are_trimmed, trimmed_twice, trim_from_moment}
 use Rattle.card_by_hand.specs.card_retention.Expected.{WordDay, Counted, more, is_newest, closes, first_words, with_entry as counted_with}
 use Rattle.card_by_hand.specs.card_retention.Entries.{last_entry, newest_word, EndsBy}
-use Rattle.card_by_hand.specs.card_retention.Retains.{is_day}
 use Rattle.card_by_hand.specs.card_retention.Shown.{Bound, InDays, AllBefore, AllUpTo, sizes, is_open}
 use Rattle.card_by_hand.specs.card_retention.ByHand.{with_by_hand, hands_in}
 use Rattle.card_by_hand.proofs.card_retention.Entering.{closes_is}
 use Rattle.card_by_hand.proofs.card_retention.Growing.{in_more, in_front}
-use Rattle.card_by_hand.proofs.card_retention.ListTrims.{day_trimmed}
 use Rattle.card_by_hand.specs.card_image.Beside.{HaveSameDays, HaveSameVehicles}
 use Rattle.card_by_hand.specs.card_image.Fields.{file, vehicle_ring, card_days, end_mark}
 use Rattle.card_by_hand.specs.card_image.Own.{own_view, own_covered, counted_view}
@@ -44,7 +42,6 @@ use Rattle.card_by_hand.specs.card_session.Moments.{IsBeforeMark, IsKeepMoment, 
 use Rattle.card_by_hand.specs.card_session.Overwriting.{BeginsBehind}
 use Rattle.card_by_hand.specs.card_session.Parts.{IsBeforeGapOf}
 use Rattle.card_by_hand.specs.card_session.Sessions.{Session, IsSession, EndsStrictly, book_of}
-use Rattle.card_by_hand.specs.card_session.Repairs.{BeginsLater}
 use Rattle.card_by_hand.specs.card_session.Vehicles.{Vehicles, last_use_in}
 use Rattle.card_by_hand.proofs.card_session.Composing.{book_is, told_book}
 use Rattle.card_by_hand.proofs.card_session.InsertingAgain.{noted_keeps}
@@ -53,7 +50,7 @@ use Rattle.card_by_hand.proofs.card_session.InsertingCards.{noted_same, noting_s
 use Rattle.card_by_hand.proofs.card_session.InsertingOpen.{opening_same, reopening_same}
 use Rattle.card_by_hand.proofs.card_session.InsertingUse.{use_inside}
 use Rattle.card_by_hand.proofs.card_session.Marks.{mark_told}
-use Rattle.card_by_hand.proofs.card_session.NewestStays.{next_low, view_word}
+use Rattle.card_by_hand.proofs.card_session.NewestStays.{next_low}
 use Rattle.card_by_hand.proofs.card_session.OnMark.{all_before}
 use Rattle.card_by_hand.proofs.card_session.Preparing.{gap_are, used_at}
 use Rattle.card_by_hand.proofs.card_session.Renewing.{keep_word}
@@ -61,7 +58,7 @@ use Rattle.card_by_hand.proofs.card_session.Repairing.{lacked_many}
 use Rattle.card_by_hand.proofs.card_session.Replaying.{with_are, with_before, with_later}
 use Rattle.card_by_hand.proofs.card_session.Stopping.{asked_at, before_use, book_days, days_there, ended_same}
 use Rattle.card_by_hand.proofs.card_session.Surviving.{newest_gapped}
-use Rattle.card_by_hand.specs.First.{IsKeepingBehind, IsFirstKeeping, MayTell, AreHandsOf}
+use Rattle.card_by_hand.specs.First.{IsFirstKeeping, MayTell, AreHandsOf}
 use Rattle.card_by_hand.specs.Wider.{with_hands}
 use Rattle.card_by_hand.proofs.FirstLaws.{entering_same, past_same, past_follows}
 use Rattle.card_by_hand.proofs.Fresh.{alone}

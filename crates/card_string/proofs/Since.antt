@@ -11,7 +11,7 @@ use Rattle.card_by_hand.specs.card_model.Days.{Day}
 use Rattle.card_by_hand.specs.card_model.Changes.{trimmed}
 use Rattle.card_by_hand.specs.card_retention.Expected.{Counted, with_entry}
 use Rattle.card_by_hand.specs.card_retention.Entries.{closed_at, newest_word}
-use Rattle.card_by_hand.specs.card_retention.Shown.{Bound, InDays, AllUpTo, is_open}
+use Rattle.card_by_hand.specs.card_retention.Shown.{Bound, InDays, AllUpTo}
 use Rattle.card_by_hand.specs.card_image.Fields.{card_days, end_mark, session_time}
 use Rattle.card_by_hand.specs.card_image.Own.{own_view, own_covered}
 use Rattle.card_by_hand.specs.hand_model.Written.{Written, Hands, Lie, Rises, entries_of, hands_of, written_by, minutes_alone, and_given}

@@ -1,5 +1,5 @@
 -- What a walk tells of the words of the days that it met.
-use Rattle.std.specs.Prelude.{◌≡◌, ℕ, suc, ◌+◌, ◌%◌, Bool, true, false, not, ◌&&◌, Option, Some, None, List, [], ◌∷◌}
+use Rattle.std.specs.Prelude.{◌≡◌, ℕ, suc, ◌%◌, Bool, true, false, not, ◌&&◌, Option, Some, None, List, [], ◌∷◌}
 use Rattle.std.specs.Prelude.{◌++◌, map, filter, nat_eq, nat_le, nat_lt, if◌then◌else◌}
 use Rattle.card_image.specs.card_model.Days.{Day}
 use Rattle.card_image.specs.card_model.Image.{StringShape, oldest_pointer}

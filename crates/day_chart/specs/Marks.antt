@@ -26,8 +26,8 @@ mark_words Event = codes " event "
 mark_words Fault = codes " fault "
 mark_words (ByHand act) = codes " by hand "
 
--- a country is a number, a type of events or faults has two hexadecimal digits, as the regulation writes it, and what was
--- entered by hand is an activity
+-- a country is a number, a type of events or faults has two hexadecimal digits, as the regulation writes it, and what
+-- was entered by hand is an activity
 abbrev pub code_text : Sign → ℕ → List ℕ
 code_text Begin code = decimal code
 code_text End code = decimal code

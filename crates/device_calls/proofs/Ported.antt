@@ -1,7 +1,7 @@
 -- A card behind a port may be written where its session writes.
 use Rattle.std.proofs.Common.{◌≡◌, inl, inr, ⊎_elim, ℕ, ◌+◌, ◌*◌, ◌≤◌, Bool, Option, List, [], ◌∷◌, refl, ap, subst, arith}
 use Rattle.std.specs.Borrow.{GName}
-use Rattle.std.specs.Prelude.{◌⊎◌, IfErr, Result, Ok, Err}
+use Rattle.std.specs.Prelude.{IfErr, Result, Ok, Err}
 use Rattle.activity_codec.specs.declared.entries.Entry.{Entry}
 use Rattle.trace_model.specs.declared.Card.{Card}
 use Rattle.tacho_types.specs.declared.texts.Registration.{Registration}

@@ -1,18 +1,18 @@
 -- A card whose string goes on since the start of a run may keep its next entry, with entries by hand before it.
-use Rattle.std.proofs.Common.{◌≡◌, ◌⊎◌, inl, inr, ⊎_elim, ℕ, ◌<◌, ◌≤◌, Option, Some, None, IfSome, List, [], ◌∷◌, length, subst, arith}
+use Rattle.std.proofs.Common.{◌⊎◌, inl, inr, ⊎_elim, ℕ, ◌<◌, ◌≤◌, Option, Some, None, IfSome, List, [], ◌∷◌, length, subst, arith}
 use Rattle.activity_codec.specs.declared.entries.Entry.{Entry}
 use Rattle.activity_codec.specs.declared.entries.Manual.{Manual}
 use Rattle.card_layout.specs.Application.{IsApplication}
 use Rattle.card_validity.specs.card_image.Fields.{end_mark}
-use Rattle.card_validity.specs.card_image.Own.{own_sizes, own_covered}
+use Rattle.card_validity.specs.card_image.Own.{own_covered}
 use Rattle.hand_model.specs.Holding.{LieBetween}
 use Rattle.hand_model.proofs.OfDay.{spans}
 use Rattle.hand_model.specs.Written.{Written, Hands}
-use Rattle.card_session.specs.Sessions.{Session, IsSession}
+use Rattle.card_session.specs.Sessions.{Session}
 use Rattle.card_by_hand.specs.First.{first_written, ComeFrom}
 use Rattle.unit_rule.specs.card_string.Carried.{StringFollowsEntries, IsFresh}
 use Rattle.card_session.specs.Overwriting.{BeginsBehind}
-use Rattle.unit_rule.specs.card_string.Since.{all_since, bound_since, counted_since, SitsSince}
+use Rattle.unit_rule.specs.card_string.Since.{all_since, bound_since, counted_since}
 use Rattle.unit_rule.proofs.card_string.Since.{may_come}
 use Rattle.device_calls.specs.OnCard.{CardMayTake, IsSittingSince}
 

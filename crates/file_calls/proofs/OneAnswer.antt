@@ -1,5 +1,5 @@
 -- A match has one answer.
-use Rattle.std.proofs.Common.{◌≡◌, ◌∙◌, ℕ, suc, ◌+◌, true, false, Some, List, [], ◌∷◌, ◌++◌, map, refl, ap, sym, subst, arith, All, append_assoc}
+use Rattle.std.proofs.Common.{◌≡◌, ◌∙◌, ℕ, suc, true, false, Some, List, [], ◌∷◌, ◌++◌, map, refl, ap, sym, subst, arith, All, append_assoc}
 use Rattle.std.specs.List.{AllByRecursion}
 use Rattle.activity_codec.specs.declared.entries.Entry.{Entry}
 use Rattle.activity_codec.specs.declared.values.Slot.{Slot}

@@ -1,6 +1,6 @@
 -- The records of a string are those of the days that it holds.
-use Rattle.std.proofs.Common.{◌≡◌, ◌∙◌, ⊎_elim, ℕ, zero, suc, ◌+◌, ◌-◌, ◌*◌, ◌/◌, ◌%◌, ◌<◌, ◌≤◌, List, [], ◌∷◌, ◌++◌, length, take, drop, refl, sym, ap, subst, arith, append_assoc, length-append, length-drop}
-use Rattle.std.specs.Prelude.{true, false, ◌==◌, ◌&&◌, not, nat_le, nat_lt, if◌then◌else◌}
+use Rattle.std.proofs.Common.{◌≡◌, ◌∙◌, ⊎_elim, ℕ, zero, suc, ◌+◌, ◌-◌, ◌<◌, ◌≤◌, List, [], ◌∷◌, ◌++◌, length, take, drop, refl, sym, ap, subst, arith, append_assoc, length-append, length-drop}
+use Rattle.std.specs.Prelude.{true, false, ◌==◌, ◌&&◌, not, nat_le, nat_lt}
 use Rattle.std.proofs.lemmas.Bool.Decides.{nat_tests}
 use Rattle.std.proofs.lemmas.List.{take_at, drop_at, take_all, length-take-le}
 use Rattle.byteorder.specs.Endian.{big_number}
@@ -9,7 +9,6 @@ use Rattle.card_layout.specs.Images.{bytes_at}
 use Rattle.card_model.specs.Bytes.{number}
 use Rattle.card_model.specs.Days.{Day, len_of, far, record_of, records, total, IsDay, AreDays}
 use Rattle.card_model.specs.Image.{StringShape, IsStringShape, IsPlace, HoldsDays, circle_of, oldest_pointer, newest_pointer, turned}
-use Rattle.card_model.specs.Walk.{day_told}
 use Rattle.card_model.proofs.Lists.{record_length, len_least, count_least}
 use Rattle.card_model.proofs.Reading.{fills}
 use Rattle.card_model.proofs.Walking.{day_same, far_below}

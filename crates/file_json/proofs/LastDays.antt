@@ -1,6 +1,6 @@
 -- The messages of a unit file without those of the first days.
 use Rattle.std.proofs.Common.{◌≡◌, ◌∙◌, ℕ, zero, suc, ◌+◌, ◌-◌, ◌≤◌, List, [], ◌∷◌, length, drop, refl, ap, sym, arith}
-use Rattle.std.specs.Prelude.{Option, Some, None, Bool, true, false, ◌==◌}
+use Rattle.std.specs.Prelude.{Option, Some, None, true, false, ◌==◌}
 use Rattle.file_view.specs.CardFiles.{newest}
 use Rattle.file_view.specs.Showing.{before_last}
 use Rattle.file_view.specs.UnitFiles.{days_told}

@@ -1,14 +1,13 @@
 -- Worked rows, computed by the checker: a file that nobody reads, a pointer with a place, and the newest of some records.
-use Rattle.std.proofs.Common.{◌≡◌, ℕ, List, [], ◌∷◌, refl}
-use Rattle.std.specs.Prelude.{Some, None, codes, replicate}
+use Rattle.std.proofs.Common.{◌≡◌, [], ◌∷◌, refl}
+use Rattle.std.specs.Prelude.{Some, None, codes}
 use Rattle.std.specs.Fmt.{digits}
 use Rattle.hex.specs.Hex.{encode_with}
-use Rattle.json.specs.Json.{Items, no_items, item, null, number}
+use Rattle.json.specs.Json.{no_items, item, null, number}
 use Rattle.json.specs.Print.{print, print_from, escape_byte}
 use Rattle.json.specs.Tree.{json_tokens}
 use Rattle.json_fields.specs.Dates.{date_of}
 use Rattle.json_fields.specs.Shown.{items_shown}
-use Rattle.file_json.specs.Parts.{changes_shown}
 use Rattle.file_json.specs.Days.{newest_items}
 use Rattle.file_json.specs.Cards.{entry_shown}
 

@@ -1,7 +1,6 @@
 -- The text of a unit file is read as its JSON, and tells the file.
 use Rattle.std.proofs.Common.{◌≡◌, ◌∙◌, ℕ, zero, suc, ◌+◌, ◌-◌, ◌*◌, ◌%◌, ◌<◌, ◌≤◌, ◌^◌, Some, List, [], ◌∷◌, ◌++◌, length, take, drop, map, All, refl, ap, sym, subst, arith, rules, length-append, length-drop}
-use Rattle.std.specs.Prelude.{Option, None, Bool, true, false, slice_index, codes}
-use Rattle.std.specs.Fmt.{decimal}
+use Rattle.std.specs.Prelude.{Option, None, Bool, false}
 use Rattle.std.proofs.lemmas.List.{take-append-drop, same_from_push, length-take-le}
 use Rattle.std.proofs.lemmas.List.Elements.{All-head, All-tail}
 use Rattle.std.proofs.lemmas.Fmt.{decimal_injective}
@@ -10,7 +9,7 @@ use Rattle.byteorder.specs.Numbers.{big_from-take}
 use Rattle.card_layout.specs.Fields.{IsBytes, joined}
 use Rattle.card_layout.proofs.Cuts.{IsBytes-take, IsBytes-drop}
 use Rattle.card_layout.proofs.Numbers.{big_number-injective}
-use Rattle.json.specs.Json.{Json, null, boolean, number, string, array, object, Items, no_items, item, Members, no_members, member, document}
+use Rattle.json.specs.Json.{Json, Items, Members, no_members, document}
 use Rattle.json.specs.Print.{print}
 use Rattle.json.specs.Tree.{json_tokens, HasNumbers, ItemsHaveNumbers, MembersHaveNumbers, depth, items_depth, members_depth}
 use Rattle.json.proofs.Printed.Trees.{document-print}
@@ -19,8 +18,7 @@ use Rattle.json_fields.specs.declared.kinds.Kind.{Kind}
 use Rattle.json_fields.specs.declared.kinds.Kind.TheVariants as kind
 use Rattle.json_fields.specs.declared.names.Name.{Name}
 use Rattle.json_fields.specs.Kinds.{fields_of}
-use Rattle.json_fields.specs.Shown.{members_then, value_shown, record_shown, records_shown, items_shown, width_of_record, AreFields}
-use Rattle.json_fields.specs.Texts.{change_value}
+use Rattle.json_fields.specs.Shown.{items_shown, AreFields}
 use Rattle.file_view.specs.UnitFiles.{days_told}
 use Rattle.json_fields.proofs.Cutting.{by_test}
 use Rattle.json_fields.proofs.Forms.{change-tells, front-bytes}

@@ -1,5 +1,5 @@
 -- A card file does not fail: its entries stand in one way, and each may stand where it does.
-use Rattle.std.proofs.Common.{◌≡◌, ◌∙◌, ◌⊎◌, ⊎_elim, ℕ, suc, ◌+◌, ◌*◌, true, false, not, Option, Some, None, List, [], ◌∷◌, ◌++◌, length, map, filter, drop, refl, ap, sym, subst, arith, All, append_assoc, append-nil}
+use Rattle.std.proofs.Common.{◌≡◌, ◌∙◌, ⊎_elim, ℕ, suc, ◌+◌, ◌*◌, true, false, not, Option, Some, None, List, [], ◌∷◌, ◌++◌, length, map, filter, drop, refl, ap, sym, subst, arith, All, append_assoc, append-nil}
 use Rattle.std.specs.Prelude.{is_some, ◌==◌, ◌||◌, nat_lt, slice_index}
 use Rattle.std.proofs.lemmas.List.{map-append}
 use Rattle.std.proofs.lemmas.List.Elements.{filter-append}

@@ -9,7 +9,7 @@ use Rattle.card_layout.specs.Images.{number_at}
 use Rattle.activity_codec.specs.declared.words.Change.{Change}
 use Rattle.activity_codec.specs.Words.{change_of}
 use Rattle.card_retention.specs.Entries.{latest}
-use Rattle.unit_model.specs.Days.{StoredDay, UnitMinute, state_at, state_in, minute_at, shown, minutes_shown, day_of as stored_day_of}
+use Rattle.unit_model.specs.Days.{StoredDay, UnitMinute, state_at, state_in, minute_at, minutes_shown, day_of as stored_day_of}
 use Rattle.message_model.specs.Messages.{Message, DayMessage}
 use Rattle.message_model.specs.Showing.{time_in, told_day, day_minutes}
 use Rattle.view_model.specs.declared.State.{State}

@@ -1,5 +1,5 @@
 -- The front of a unit file that was read, and what was told by it.
-use Rattle.std.proofs.Common.{◌≡◌, ◌∙◌, ℕ, zero, suc, ◌+◌, ◌<◌, false, Option, Some, None, List, [], ◌∷◌, ◌++◌, length, map, drop, get_or, refl, ap, sym, subst, arith, All, append_assoc, append-nil, length-append}
+use Rattle.std.proofs.Common.{◌≡◌, ◌∙◌, ℕ, zero, suc, ◌<◌, false, Option, Some, None, List, [], ◌∷◌, ◌++◌, length, map, drop, get_or, refl, ap, sym, subst, arith, All, append_assoc, append-nil, length-append}
 use Rattle.std.specs.Prelude.{flat_map, is_some, OnOk, Result, Ok, Err}
 use Rattle.std.proofs.lemmas.List.Elements.{All-append, All-nil}
 use Rattle.card_layout.specs.Fields.{joined}

@@ -1,5 +1,5 @@
 -- A unit file does not fail: its messages stand in one way.
-use Rattle.std.proofs.Common.{◌≡◌, ◌∙◌, ℕ, suc, ◌+◌, List, [], ◌∷◌, ◌++◌, length, map, refl, ap, sym, subst, arith, All, append_assoc, append-nil}
+use Rattle.std.proofs.Common.{◌≡◌, ◌∙◌, ℕ, suc, List, [], ◌∷◌, ◌++◌, length, map, refl, ap, sym, subst, arith, All, append_assoc, append-nil}
 use Rattle.card_layout.specs.Fields.{joined}
 use Rattle.message_model.specs.Messages.{Message, message_bytes, IsMessage, IsUnitFile}
 use Rattle.message_model.proofs.Reading.{one_way}

@@ -1,6 +1,6 @@
 -- An entry that is added behind one that is known to be there at the pointer.
 use Rattle.std.proofs.Common.{◌≡◌, ◌∙◌, ℕ, ◌<◌, Bool, true, cond, List, sym, ap, subst}
-use Rattle.gated_ring.specs.Ring.{Shape, PointsInside, IsAtPointer, pointer, is_there, next, taken}
+use Rattle.gated_ring.specs.Ring.{Shape, PointsInside, IsAtPointer, is_there, next, taken}
 use Rattle.gated_ring.specs.Change.{IsAdded}
 
 module _ (r : Shape) (last : ℕ) (x : List ℕ) where

@@ -1,10 +1,8 @@
 -- Worked rows of entries by hand.
-use Rattle.std.proofs.Common.{◌≡◌, List, [], ◌∷◌, refl}
+use Rattle.std.proofs.Common.{◌≡◌, [], ◌∷◌, refl}
 use Rattle.activity_codec.specs.declared.values.Activity.TheVariants.{Rest, Available, Work}
 use Rattle.activity_codec.specs.declared.values.Slot.TheVariants.{Driver, CoDriver}
 use Rattle.card_image.specs.card_model.Days.{Day}
-use Rattle.card_image.specs.card_retention.Entries.{entries_up_to}
-use Rattle.card_image.specs.card_retention.Expected.{WordDay}
 use Rattle.activity_codec.specs.declared.entries.Manual.{Manual}
 use Rattle.hand_model.specs.Manual.{manual_word}
 use Rattle.hand_model.specs.ByHand.{words_by_hand, by_hand_up_to}

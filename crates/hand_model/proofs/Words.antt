@@ -1,9 +1,9 @@
 -- What the word of an entry by hand tells.
-use Rattle.std.proofs.Common.{◌≡◌, ℕ, ◌+◌, ◌*◌, ◌/◌, ◌%◌, ◌<◌, ◌≤◌, Bool, true, cond, Some, None, refl, ◌∙◌, ap, arith}
-use Rattle.std.specs.Prelude.{◌==◌, ◌&&◌}
+use Rattle.std.proofs.Common.{◌≡◌, ℕ, ◌+◌, ◌/◌, ◌%◌, ◌<◌, Bool, true, cond, Some, None, ◌∙◌, ap, arith}
+use Rattle.std.specs.Prelude.{◌&&◌}
 use Rattle.activity_codec.specs.declared.entries.Entry.{Entry}
 use Rattle.activity_codec.specs.declared.words.Change.{Change}
-use Rattle.activity_codec.specs.Words.{change_of, word_of, word_minute, word_slot, word_act, word_absent, word_crew}
+use Rattle.activity_codec.specs.Words.{change_of, word_minute, word_slot, word_act, word_absent, word_crew}
 use Rattle.activity_codec.proofs.WordLemmas.{change_of-word_of}
 use Rattle.card_image.specs.card_model.Changes.{date_of}
 use Rattle.card_image.specs.card_retention.Entries.{told_by}

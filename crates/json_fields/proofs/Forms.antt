@@ -1,6 +1,6 @@
 -- What the forms of fields tell.
-use Rattle.std.proofs.Common.{◌≡◌, ◌∙◌, ℕ, zero, suc, replicate, subst, ◌+◌, ◌-◌, ◌*◌, ◌/◌, ◌%◌, ◌<◌, ◌≤◌, ◌^◌, Bool, true, false, List, [], ◌∷◌, ◌++◌, length, take, drop, refl, ap, sym, arith, rules, length-drop}
-use Rattle.std.specs.Prelude.{◌==◌, ◌&&◌, if◌then◌else◌, chars, encode_utf8_all, slice_index, codes, bytes_eq}
+use Rattle.std.proofs.Common.{◌≡◌, ◌∙◌, ℕ, zero, suc, replicate, subst, ◌-◌, ◌/◌, ◌%◌, ◌<◌, ◌≤◌, ◌^◌, Bool, true, false, List, [], ◌∷◌, ◌++◌, length, take, drop, refl, ap, sym, arith, rules, length-drop}
+use Rattle.std.specs.Prelude.{◌==◌, ◌&&◌, if◌then◌else◌, chars, slice_index, codes, bytes_eq}
 use Rattle.std.proofs.lemmas.List.{take-append-drop, length-take-le, get_or-drop, drop-drop}
 use Rattle.std.proofs.lemmas.Str.{chars-encodes}
 use Rattle.std.proofs.lemmas.Bool.Decides.{nat_tests}
@@ -11,7 +11,7 @@ use Rattle.byteorder.specs.Numbers.{big_from-lt}
 use Rattle.card_layout.specs.Fields.{IsBytes}
 use Rattle.card_layout.proofs.Cuts.{IsBytes-take, IsBytes-drop}
 use Rattle.card_layout.proofs.Numbers.{big_number-injective}
-use Rattle.json.specs.Json.{Json, null, boolean, number, string, array, object, Items, no_items, item, Members, no_members, member}
+use Rattle.json.specs.Json.{Json}
 use Rattle.json_fields.specs.declared.codes.Coding.{Coding}
 use Rattle.json_fields.specs.declared.codes.Coding.TheVariants.{Equipment, Nation}
 use Rattle.json_fields.specs.Dates.{time_text}

@@ -1,10 +1,10 @@
 -- What stands at the front of bytes is told by the members and items that it makes, whatever follows.
-use Rattle.std.proofs.Common.{◌≡◌, ◌∙◌, ℕ, zero, suc, ◌+◌, ◌*◌, ◌≤◌, ◌<◌, List, [], ◌∷◌, ◌++◌, length, take, drop, refl, ap, sym, subst, arith, length-drop}
+use Rattle.std.proofs.Common.{◌≡◌, ◌∙◌, ℕ, zero, suc, ◌+◌, ◌*◌, ◌≤◌, List, [], ◌∷◌, ◌++◌, length, take, drop, refl, ap, sym, subst, arith, length-drop}
 use Rattle.std.proofs.lemmas.List.{length-take-le, take-append-drop, take-take, drop-take}
 use Rattle.card_layout.specs.Fields.{IsBytes}
 use Rattle.card_layout.proofs.Cuts.{IsBytes-take, IsBytes-drop}
-use Rattle.json.specs.Json.{Json, Members, member}
-use Rattle.json.specs.Tree.{HasNumbers, MembersHaveNumbers, depth, members_depth}
+use Rattle.json.specs.Json.{Members}
+use Rattle.json.specs.Tree.{MembersHaveNumbers, members_depth}
 use Rattle.json_fields.specs.declared.fields.Field.{Field}
 use Rattle.json_fields.specs.Shown.{members_then, value_shown, items_shown, width_of_record, CanShow, AreFields}
 use Rattle.json_fields.proofs.Taking.{first_in, behind_in, first_item, behind_item}

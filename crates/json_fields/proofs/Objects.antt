@@ -1,6 +1,6 @@
 -- Objects that were written, member by member.
 use Rattle.std.proofs.Common.{◌≡◌, ◌∙◌, ℕ, List, [], ◌∷◌, ◌++◌, Bool, false, length, take, drop, get_or, ◌+◌, ◌-◌, ◌<◌, refl, ap, sym, arith, append_assoc, append-nil, length-drop}
-use Rattle.std.specs.Prelude.{if◌then◌else◌, encode_utf8, encode_utf8_all}
+use Rattle.std.specs.Prelude.{encode_utf8, encode_utf8_all}
 use Rattle.std.proofs.lemmas.List.{take_all, take_more}
 use Rattle.std.proofs.lemmas.Str.{encodes-append}
 use Rattle.json.specs.Json.{Json}

@@ -1,6 +1,6 @@
 -- A record's JSON is read back, and tells the record's bytes.
 use Rattle.std.proofs.Common.{◌≡◌, ℕ, zero, suc, ◌*◌, ◌+◌, ◌≤◌, ◌<◌, ◌^◌, Some, List, [], ◌∷◌, ◌++◌, length, take, drop, refl, sym, ap, ◌∙◌, arith, rules, subst, length-drop}
-use Rattle.std.specs.Prelude.{Result, Ok, Err, Option, None, Bool, true, false, ◌==◌, if◌then◌else◌, slice_index}
+use Rattle.std.specs.Prelude.{Result, Ok, Err, Option, Bool, true, false, ◌==◌, if◌then◌else◌, slice_index}
 use Rattle.std.proofs.lemmas.List.{take-append-drop, length-take-le}
 use Rattle.std.proofs.Math.Nat.{pow-le-pow_right}
 use Rattle.std.proofs.lemmas.Fmt.{decimal_injective}
@@ -11,7 +11,7 @@ use Rattle.byteorder.specs.Numbers.{big_from-lt}
 use Rattle.card_layout.specs.Fields.{IsBytes}
 use Rattle.card_layout.proofs.Cuts.{IsBytes-take, IsBytes-drop}
 use Rattle.card_layout.proofs.Numbers.{big_number-injective}
-use Rattle.json.specs.Json.{Json, null, boolean, number, string, array, object, Items, no_items, item, Members, no_members, member, document}
+use Rattle.json.specs.Json.{Json, null, string, no_members, document}
 use Rattle.json.specs.Print.{print}
 use Rattle.json.specs.Tree.{json_tokens, HasNumbers, ItemsHaveNumbers, MembersHaveNumbers, depth, items_depth, members_depth}
 use Rattle.json.proofs.Printed.Trees.{document-print}
@@ -27,8 +27,8 @@ use Rattle.json_fields.specs.Codes.{meaning}
 use Rattle.json_fields.specs.Groups.{group_fields}
 use Rattle.json_fields.specs.Shown.{members_then, plain_shown, group_value, value_shown, members_shown, record_shown, entry_shown, items_shown, records_shown, width_of_record, CanShowPlain, CanShow, AllCan, AreFields, ArePlain}
 use Rattle.json_fields.specs.Texts.{are_zeros, or_none, text_of, time_value, text_value, name_value, code_value, card_value, registration_value, holder_value, numbers_shown}
-use Rattle.json_fields.proofs.Forms.{zeros_alike, or_none-tells, time-tells, text-tells, latin-tells, code-tells, card-tells, registration-tells, holder-tells, numbers-tell}
-use Rattle.json_fields.proofs.Taking.{text_in, members_in, first_in, behind_in, value_in, items_in, first_item, behind_item, count_in, is_null}
+use Rattle.json_fields.proofs.Forms.{or_none-tells, time-tells, text-tells, latin-tells, code-tells, card-tells, registration-tells, holder-tells, numbers-tell}
+use Rattle.json_fields.proofs.Taking.{text_in, members_in, first_in, behind_in, value_in, items_in, first_item, behind_item, count_in}
 
 abbrev ok_in : {E : Type 0} → Result (List ℕ) E → List ℕ
 ok_in (Ok xs) = xs

@@ -13,7 +13,7 @@ use Rattle.message_model.specs.Sending.{message_of, content_sent, unit_file}
 use Rattle.link_loader.specs.declared.stage.Stage.{Stage}
 use Rattle.link_loader.specs.declared.stage.Stage.TheVariants.{Start, Diagnostic, Upload, Asked, Acknowledged, Exit, Stop, Finished}
 use Rattle.link_loader.specs.Stages.{sent_at, request_bytes, acknowledgement, next_counter, next_day}
-use Rattle.link_loader.specs.Loading.{Loading, begun, at_stage, after_message, continued, with_piece, Takes}
+use Rattle.link_loader.specs.Loading.{Loading, at_stage, after_message, continued, with_piece, Takes}
 use Rattle.link_loader.specs.Talking.{Talk, fresh_talk, Exchanges, Talks, CanBeLoaded}
 use Rattle.link_loader.proofs.Rest.{left, left_at}
 use Rattle.link_loader.proofs.FrameKinds.{more_goes_on, last_closes}

@@ -1,6 +1,6 @@
 -- What a frame is that comes to the loader, by its bytes (Annex IB, Appendix 7; the length that marks the last piece:
 -- profile).
-use Rattle.std.specs.Prelude.{◌≡◌, ℕ, ◌≤◌, ◌==◌, ◌&&◌, nat_le, nat_lt, Bool, if◌then◌else◌, List, [], ◌∷◌, length}
+use Rattle.std.specs.Prelude.{◌≡◌, ℕ, ◌≤◌, ◌==◌, ◌&&◌, nat_le, nat_lt, Bool, if◌then◌else◌, List, length}
 use Rattle.std.specs.Prelude.{slice_index, bytes_eq}
 use Rattle.link_model.specs.declared.request.Request.{Request}
 use Rattle.link_model.specs.declared.lengths.TheConstants.{FRAME_MOST}

@@ -1,5 +1,5 @@
 -- The messages that a unit sends, of its image (Appendix 7; what it puts into the fields: profile).
-use Rattle.std.specs.Prelude.{ℕ, ◌*◌, ◌/◌, ◌<◌, Bool, ◌||◌, Option, Some, None, option_map, List, [], ◌∷◌, ◌++◌, map}
+use Rattle.std.specs.Prelude.{ℕ, ◌*◌, ◌/◌, ◌<◌, Bool, ◌||◌, Option, Some, option_map, List, [], ◌∷◌, ◌++◌, map}
 use Rattle.std.specs.Prelude.{filter, find, replicate, nat_eq}
 use Rattle.std.specs.List.{range_with_len}
 use Rattle.card_layout.specs.Images.{bytes_at}

@@ -1,11 +1,9 @@
 -- A download over a noisy link goes on: what each event leaves.
 use Rattle.std.proofs.Common.{◌≡◌, ◌∙◌, ℕ, ◌+◌, ◌<◌, ◌≤◌, Bool, true, false, List, [], ◌∷◌, ◌++◌, Option, Some, None, IfSome, Result, Ok, Err, refl, sym, ap, subst, inl, inr, arith, append_assoc, append-nil}
 use Rattle.std.specs.Prelude.{◌⊎◌, slice_get, option_to_list}
-use Rattle.std.specs.List.{AllByRecursion}
 use Rattle.std.specs.Io.KnownBytes.{Appends, Keeps}
 use Rattle.std.proofs.KnownBytes.{Appends-trans, Keeps-refl}
 use Rattle.tach_media.specs.Medium.{State}
-use Rattle.unit_messages.specs.declared.joining.TheConstants.{LONGEST}
 use Rattle.link_model.specs.Answers.{Idle}
 use Rattle.unit_model.specs.Decoding.{first_bad_place}
 use Rattle.link_session.specs.Told.{SessionView, Knows, is_judged, fresh}
@@ -25,12 +23,12 @@ use Rattle.noisy_model.specs.Ends.{UnitEnd, LoaderEnd, Taken, Hears, TakesBy, re
 use Rattle.noisy_model.specs.Worlds.{World, Happens, ComesToUnit, ComesToLoader, fresh_world}
 use Rattle.noisy_model.proofs.Lists.{each_at, each_weaker}
 use Rattle.noisy_model.proofs.Arriving.{Cases, cases, sent_is, brought_is}
-use Rattle.noisy_model.proofs.Leading.{IsSent, IsGiven, IsIt, is_it}
+use Rattle.noisy_model.proofs.Leading.{IsSent, IsGiven, is_it}
 use Rattle.noisy_link.specs.Sides.{IsReply, Loads, asked, is_over, download_sides, puts_of}
-use Rattle.noisy_link.specs.Steps.{told_as, frame_of, brought_by, IsRefusal, LacksRoom, AsksUnit, IsSilent, IsUnanswered, IsSilence, IsUntaken, IsStep, to_unit, to_loader}
+use Rattle.noisy_link.specs.Steps.{told_as, frame_of, brought_by, IsRefusal, LacksRoom, AsksUnit, IsSilent, IsSilence, IsUntaken, IsStep, to_unit, to_loader}
 use Rattle.noisy_download.specs.Listing.{ListTakes, listing_sides, listing, with_list, IsUnsent, Lists, RequestIsListed, AnswerIsListed, IsListed, IsUnderway, DownloadGoesOn}
 use Rattle.noisy_download.proofs.Listed.{passes_on, puts_on}
-use Rattle.noisy_download.proofs.Underway.{some_of, one_frame, kept_underway, here, on_wire, ended, memory_ended, failed_ended, bad_ended, silent_ended, refused_ended}
+use Rattle.noisy_download.proofs.Underway.{some_of, kept_underway, here, on_wire, ended, memory_ended, failed_ended, bad_ended, silent_ended, refused_ended}
 
 -- the request that is asked now is still unsent
 unsent_still : (w v : World SessionView Load) → IsUnsent w → v.sent ≡ w.sent → v.unit.last ≡ w.unit.last → v.loader ≡ w.loader → IsUnsent v

@@ -1,7 +1,6 @@
 -- A talk over a link that keeps all, with the exchanges that have passed in it.
 use Rattle.std.proofs.Common.{◌≡◌, ◌∙◌, ℕ, List, [], ◌∷◌, ◌++◌, Option, Some, refl, sym, ap, subst, append_assoc, append-nil}
 use Rattle.link_session.specs.Told.{SessionView}
-use Rattle.link_loader.specs.Loading.{Load}
 use Rattle.link_loader.specs.Talking.{Talk, fresh_talk}
 use Rattle.unit_download.specs.declared.wire.Passed.{Passed}
 use Rattle.unit_download.specs.Wires.{of_loader, of_unit, Runs}
@@ -9,7 +8,7 @@ use Rattle.unit_download.proofs.Linked.{runs_on}
 use Rattle.noisy_model.specs.declared.event.Event.{Event}
 use Rattle.noisy_model.specs.Ends.{Sides, Taken}
 use Rattle.noisy_model.specs.Worlds.{World, Happens, Passes, Talks}
-use Rattle.noisy_link.specs.Sides.{IsReply, asked, download_sides, puts_of}
+use Rattle.noisy_link.specs.Sides.{IsReply, download_sides, puts_of}
 use Rattle.noisy_link.proofs.Talking.{at, exchanged}
 use Rattle.noisy_download.specs.Listing.{Listing, ListTakes, listing_sides}
 

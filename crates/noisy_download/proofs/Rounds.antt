@@ -1,5 +1,5 @@
 -- One event after another.
-use Rattle.std.proofs.Common.{◌≡◌, ◌∙◌, ℕ, ◌≤◌, Bool, true, false, List, [], Option, Some, None, IfSome, Result, Ok, Err, refl, sym, ap, subst, arith}
+use Rattle.std.proofs.Common.{◌≡◌, ◌∙◌, ℕ, ◌≤◌, Bool, false, List, [], Option, IfSome, Result, Err, refl, sym, ap, subst}
 use Rattle.std.specs.Prelude.{IsErrAnd, is_none}
 use Rattle.std.proofs.KnownBytes.{Appends-nil}
 use Rattle.card_layout.specs.Fields.{IsBytes}
@@ -7,7 +7,7 @@ use Rattle.tach_media.proofs.Runs.{err_is}
 use Rattle.unit_memory.proofs.Told.{told_all}
 use Rattle.unit_messages.specs.declared.joining.TheConstants.{LONGEST}
 use Rattle.link_model.specs.Answers.{Idle}
-use Rattle.link_session.specs.Told.{SessionView, Knows, fresh}
+use Rattle.link_session.specs.Told.{SessionView, fresh}
 use Rattle.link_loader.specs.Stages.{sent_at}
 use Rattle.link_loader.specs.Loading.{Loading, Load, begun}
 use Rattle.unit_download.specs.declared.wire.Passed.{Passed}

@@ -1,7 +1,6 @@
 -- What is known of a download over a noisy link that is underway, and how it ends.
-use Rattle.std.proofs.Common.{◌≡◌, ◌∙◌, ℕ, ◌+◌, ◌<◌, ◌≤◌, Bool, true, false, List, [], ◌∷◌, ◌++◌, length, Option, Some, None, IfSome, Result, Ok, Err, refl, sym, ap, subst, inl, inr, arith, append_assoc, append-nil}
-use Rattle.std.specs.Prelude.{◌⊎◌, ◌||◌, is_none, slice_get, OnOk, OnErr, IfErr, IsErrOf}
-use Rattle.std.specs.List.{AllByRecursion}
+use Rattle.std.proofs.Common.{◌≡◌, ◌∙◌, ℕ, ◌+◌, ◌<◌, Bool, true, false, List, [], ◌∷◌, ◌++◌, Option, Some, None, IfSome, Result, Ok, Err, refl, sym, ap, subst, inl, inr, arith, append_assoc, append-nil}
+use Rattle.std.specs.Prelude.{◌⊎◌, ◌||◌, is_none, slice_get}
 use Rattle.std.specs.Io.KnownBytes.{Appends, Keeps}
 use Rattle.std.proofs.KnownBytes.{Appends-kept}
 use Rattle.tach_media.specs.Medium.{State}
@@ -10,35 +9,30 @@ use Rattle.tach_media.proofs.Runs.{both_told}
 use Rattle.message_model.specs.Sending.{unit_file}
 use Rattle.unit_model.specs.Decoding.{Decodes, first_bad_place}
 use Rattle.unit_memory.proofs.Told.{one_told, told_all}
-use Rattle.unit_messages.specs.declared.joining.TheConstants.{LONGEST}
 use Rattle.unit_messages.proofs.Calls.{no_call}
-use Rattle.link_model.specs.declared.request.Request.{Request}
 use Rattle.link_model.specs.Frames.{Right}
-use Rattle.link_model.specs.Answers.{LinkState, Idle}
+use Rattle.link_model.specs.Answers.{Idle}
 use Rattle.link_frames.specs.Asking.{asks_unit}
 use Rattle.link_session.specs.Told.{SessionView, Knows, is_judged, fresh}
 use Rattle.link_loader.specs.declared.stage.Stage.{Stage}
 use Rattle.link_loader.specs.declared.stage.Stage.TheVariants.{Start, Diagnostic, Upload, Asked, Acknowledged, Exit, Stop, Finished}
-use Rattle.link_loader.specs.declared.fault.LoadFault.{LoadFault}
-use Rattle.link_loader.specs.declared.fault.LoadFault.TheVariants as load
 use Rattle.link_loader.specs.Stages.{sent_at}
-use Rattle.link_loader.specs.Loading.{Loading, Load, IsRefused, LeavesSink}
+use Rattle.link_loader.specs.Loading.{Loading, Load}
 use Rattle.unit_download.specs.declared.wire.Passed.{Passed}
 use Rattle.unit_download.specs.declared.fault.DownloadFault.{DownloadFault}
 use Rattle.unit_download.specs.declared.fault.DownloadFault.TheVariants.{Failed, BadUnit, Changed, WriteFault, Memory}
-use Rattle.unit_download.specs.Wires.{of_loader, of_unit, talk_of, Replies}
+use Rattle.unit_download.specs.Wires.{of_loader, of_unit, talk_of}
 use Rattle.unit_download.specs.Ending.{IfBad, IsDownload, IsUnanswered, IsDownloaded}
 use Rattle.unit_download.specs.Ending as ending
 use Rattle.unit_download.proofs.Opening.{Begins, nothing_out}
 use Rattle.unit_download.proofs.Talking.{IsTalking, IsAnswered, fresh_knows, unanswered_ends, unanswered_untold, unanswered_front, untaken_ends, untaken_untold, untaken_front, talking_done, talking_file}
 use Rattle.noisy_model.specs.declared.packet.Packet.{Packet}
-use Rattle.noisy_model.specs.declared.event.Event.{Event}
-use Rattle.noisy_model.specs.declared.event.Event.TheVariants.{Send, ToUnit, ToLoader}
+use Rattle.noisy_model.specs.declared.event.Event.TheVariants.{ToUnit}
 use Rattle.noisy_model.specs.Ends.{Arrival, New, HearsBy, arrival_by, brought}
 use Rattle.noisy_model.specs.Worlds.{World, Happens, ComesToUnit, Waits, HasAnswered}
 use Rattle.noisy_model.proofs.Lists.{each_at}
-use Rattle.noisy_model.proofs.Arriving.{IsRequest, brought_is}
-use Rattle.noisy_model.proofs.Leading.{IsSent, IsGiven, Holds, IsIt, holds, is_it}
+use Rattle.noisy_model.proofs.Arriving.{brought_is}
+use Rattle.noisy_model.proofs.Leading.{IsSent, IsGiven, Holds, holds, is_it}
 use Rattle.noisy_link.specs.Sides.{IsReply, asked, is_over, download_sides, puts_of}
 use Rattle.noisy_link.specs.Steps.{told_as, IsRefusal, LacksRoom, Requests, AsksUnit, IsSilence, IsUntaken, to_unit}
 use Rattle.noisy_link.specs.Steps as step

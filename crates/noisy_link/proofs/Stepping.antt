@@ -1,13 +1,13 @@
 -- What the ends do about the packet of a place, and what that is of a world.
 use Rattle.std.proofs.Common.{◌≡◌, ◌∙◌, ℕ, ◌+◌, ◌≤◌, ◌<◌, Bool, true, false, List, [], ◌∷◌, ◌++◌, length, Option, Some, None, Result, Ok, Err, refl, sym, ap, subst, inl, inr, arith}
-use Rattle.std.specs.Prelude.{◌⊎◌, ◌==◌, ◌&&◌, not, is_none, nat_lt, slice_get, option_to_list, is_ok, is_err, OnOk, OnErr, IfErr, IfSome, if◌then◌else◌}
+use Rattle.std.specs.Prelude.{◌==◌, ◌&&◌, not, is_none, nat_lt, slice_get, option_to_list, is_ok, is_err, OnOk, OnErr, IfErr, IfSome, if◌then◌else◌}
 use Rattle.std.specs.Io.KnownBytes.{Appends, Keeps}
 use Rattle.std.proofs.KnownBytes.{Appends-nil, Appends-kept, Keeps-refl}
 use Rattle.std.proofs.lemmas.Bool.Decides.{nat_tests}
 use Rattle.link_model.specs.declared.request.Request.{Request}
 use Rattle.link_model.specs.Frames.{Right}
 use Rattle.link_frames.specs.Asking.{asks_unit}
-use Rattle.link_session.specs.Told.{SessionView, is_judged}
+use Rattle.link_session.specs.Told.{SessionView}
 use Rattle.link_loader.specs.declared.kind.Kind.TheVariants.{Piece}
 use Rattle.link_loader.specs.declared.fault.LoadFault.{LoadFault}
 use Rattle.link_loader.specs.declared.fault.LoadFault.TheVariants as load
@@ -21,7 +21,7 @@ use Rattle.noisy_model.specs.Ends.{UnitEnd, LoaderEnd, Taken, Arrival, New, Agai
 use Rattle.noisy_model.specs.Worlds.{World, ComesToUnit, ComesToLoader}
 use Rattle.noisy_model.proofs.Arriving.{Cases, cases}
 use Rattle.noisy_link.specs.Sides.{IsReply, TakesPacket, LeavesEnd, asked, download_sides, puts_of}
-use Rattle.noisy_link.specs.Steps.{told_as, IsRefusal, LacksRoom, EndHears, Requests, AsksUnit, IsSilent, IsHearing, EndTakes, IsTaking, IsUntaken, IsStep}
+use Rattle.noisy_link.specs.Steps.{told_as, IsRefusal, LacksRoom, EndHears, AsksUnit, IsSilent, IsHearing, EndTakes, IsTaking, IsUntaken, IsStep}
 
 pub hears_there : (image : Option (List ℕ)) (old : UnitEnd SessionView) (sent : List Packet) (place : ℕ) (p : Packet) (new : UnitEnd SessionView) (given now : List Packet) (answer : Option Packet) → slice_get sent place ≡ Some p
     → Hears (IsReply image) old p new answer → now ≡ given ++ option_to_list answer → EndHears image old (slice_get sent place) new given now

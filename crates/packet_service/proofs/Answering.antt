@@ -1,8 +1,8 @@
 -- A service of packets, byte after byte.
-use Rattle.std.proofs.Common.{◌≡◌, ◌∙◌, ℕ, ◌+◌, ◌<◌, ◌≤◌, List, [], ◌∷◌, ◌++◌, length, get_or, take, drop, Option, Some, None, Result, Ok, Err, refl, sym, ap, subst, arith, append_assoc, append-nil, length-append}
+use Rattle.std.proofs.Common.{◌≡◌, ◌∙◌, ℕ, ◌+◌, ◌<◌, ◌≤◌, List, [], ◌∷◌, ◌++◌, length, get_or, take, drop, Option, Result, Ok, Err, refl, sym, ap, subst, append_assoc, append-nil}
 use Rattle.std.specs.List.{AllByRecursion}
-use Rattle.std.specs.Io.KnownBytes.{Appends, Consumes, Keeps}
-use Rattle.std.proofs.KnownBytes.{Appends-nil, Appends-trans, Consumes-nil, Consumes-trans, Consumes-kept}
+use Rattle.std.specs.Io.KnownBytes.{Appends}
+use Rattle.std.proofs.KnownBytes.{Appends-nil, Appends-trans}
 use Rattle.std.proofs.Math.Seq.{take-append-add}
 use Rattle.std.proofs.lemmas.List.{take_more}
 use Rattle.std.specs.Prelude.{IsErrAnd}
@@ -16,8 +16,8 @@ use Rattle.link_session.specs.declared.fault.ServeFault.{ServeFault}
 use Rattle.link_session.specs.declared.fault.ServeFault.TheVariants.{ReadFault, WriteFault, Failed, BadUnit, TooLong}
 use Rattle.packet_service.specs.declared.datagrams.Gathered.TheVariants as gathering
 use Rattle.packet_service.specs.declared.datagrams.TheConstants.{LONGEST}
-use Rattle.packet_service.specs.Datagrams.{datagram, stream_of, IsPart, AreDatagrams, IsTooLong, gathered}
-use Rattle.packet_service.specs.Serving.{stream_of_packets, fresh_end, HearsAny, Serves, AreAnswered, IsServing, StopsAt, Serving, ServingAll, IsHeard, AllAnswered}
+use Rattle.packet_service.specs.Datagrams.{datagram, stream_of, gathered}
+use Rattle.packet_service.specs.Serving.{stream_of_packets, fresh_end, HearsAny, Serves, AreAnswered, IsServing, StopsAt, Serving, ServingAll, IsHeard}
 use Rattle.packet_service.proofs.Parts.{part_more, part_whole, part_long, stream_on}
 
 pub each_on : (datagrams : List (List ℕ)) (d : List ℕ) → AllByRecursion (λ e. length e ≤ LONGEST) datagrams → length d ≤ LONGEST → AllByRecursion (λ e. length e ≤ LONGEST) (datagrams ++ d ∷ [])

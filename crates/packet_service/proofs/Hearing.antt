@@ -1,8 +1,8 @@
 -- What a datagram leaves, by what an end does about its packet.
-use Rattle.std.proofs.Common.{◌≡◌, ◌∙◌, ℕ, ◌<◌, ◌≤◌, Bool, true, false, List, [], ◌∷◌, ◌++◌, length, Option, Some, None, IfSome, Result, Ok, Err, refl, sym, ap, subst, arith, append-nil}
+use Rattle.std.proofs.Common.{◌≡◌, ◌∙◌, ℕ, ◌<◌, ◌≤◌, true, false, List, [], ◌∷◌, length, Option, Some, None, Result, Ok, Err, refl, sym, ap, subst, arith, append-nil}
 use Rattle.std.specs.Prelude.{◌==◌, OnOk, IfErr, IsErrAnd, option_to_list}
 use Rattle.std.proofs.lemmas.Bool.Decides.{nat_tests}
-use Rattle.std.specs.Io.KnownBytes.{Appends, Keeps}
+use Rattle.std.specs.Io.KnownBytes.{Appends}
 use Rattle.std.proofs.KnownBytes.{Appends-nil}
 use Rattle.tach_media.specs.Streams.{AppendsFront}
 use Rattle.tach_media.specs.Medium.{State, Rose}
@@ -13,12 +13,11 @@ use Rattle.link_session.specs.Told.{SessionView}
 use Rattle.link_loader.specs.declared.fault.LoadFault.{LoadFault}
 use Rattle.link_loader.specs.declared.fault.LoadFault.TheVariants as load
 use Rattle.link_loader.specs.Loading.{Load, IsRefused, LeavesSink, with_piece}
-use Rattle.unit_download.specs.Ending.{IsOfFrame}
 use Rattle.noisy_model.specs.declared.packet.Packet.{Packet}
 use Rattle.noisy_model.specs.Ends.{UnitEnd, LoaderEnd, Taken, New, Hears, arrival_by, request_of, brought}
 use Rattle.noisy_model.specs.Packets.{packet_bytes, packet_in}
-use Rattle.noisy_link.specs.Sides.{IsReply, TakesPacket, asked, puts_of, took_any}
-use Rattle.noisy_link.specs.Steps.{AsksUnit, LacksRoom}
+use Rattle.noisy_link.specs.Sides.{IsReply, TakesPacket, asked, took_any}
+use Rattle.noisy_link.specs.Steps.{AsksUnit}
 use Rattle.noisy_link.proofs.Stepping.{lacks_room}
 use Rattle.link_session.specs.Served.{IsCaused, has_failed}
 use Rattle.link_session.proofs.ServeFaults.{passed}

@@ -1,13 +1,11 @@
 -- Parts of datagrams, byte after byte.
-use Rattle.std.proofs.Common.{◌≡◌, ◌∙◌, ℕ, ◌+◌, ◌-◌, ◌*◌, ◌/◌, ◌%◌, ◌<◌, ◌≤◌, Bool, true, false, List, [], ◌∷◌, ◌++◌, length, get_or, drop, map, refl, sym, ap, subst, arith, append_assoc, append-nil, length-append}
+use Rattle.std.proofs.Common.{◌≡◌, ◌∙◌, ℕ, ◌+◌, ◌-◌, ◌*◌, ◌/◌, ◌%◌, ◌<◌, ◌≤◌, Bool, true, false, List, [], ◌∷◌, ◌++◌, length, get_or, drop, refl, sym, ap, subst, arith, append_assoc, append-nil, length-append}
 use Rattle.std.specs.Prelude.{◌==◌, nat_lt, if◌then◌else◌}
-use Rattle.std.specs.List.{AllByRecursion}
 use Rattle.std.proofs.lemmas.Bool.Decides.{nat_tests}
-use Rattle.card_layout.specs.Fields.{joined}
 use Rattle.packet_service.specs.declared.datagrams.Gathered.{Gathered}
 use Rattle.packet_service.specs.declared.datagrams.Gathered.TheVariants.{More, Whole, TooLong}
 use Rattle.packet_service.specs.declared.datagrams.TheConstants.{LONGEST}
-use Rattle.packet_service.specs.Datagrams.{datagram, stream_of, IsPart, AreDatagrams, IsTooLong, gathered_by, gathered}
+use Rattle.packet_service.specs.Datagrams.{datagram, stream_of, IsPart, IsTooLong, gathered_by, gathered}
 
 is_lower : (m n : ℕ) → nat_lt m n ≡ true → m < n
 is_lower m n is = grind (arith, nat_tests)

@@ -1,6 +1,5 @@
 -- A download by packets, byte after byte.
-use Rattle.std.proofs.Common.{◌≡◌, ◌∙◌, ℕ, ◌+◌, ◌<◌, ◌≤◌, List, [], ◌∷◌, ◌++◌, length, get_or, take, drop, Option, Some, None, Result, Ok, Err, refl, sym, ap, subst, arith, append_assoc, append-nil, length-append}
-use Rattle.std.specs.List.{AllByRecursion}
+use Rattle.std.proofs.Common.{◌≡◌, ◌∙◌, ℕ, ◌+◌, ◌<◌, ◌≤◌, List, [], ◌∷◌, ◌++◌, length, get_or, take, drop, Option, Result, Ok, Err, refl, sym, ap, subst, arith, append_assoc, append-nil}
 use Rattle.std.specs.Io.KnownBytes.{Appends}
 use Rattle.std.proofs.KnownBytes.{Appends-nil, Appends-trans}
 use Rattle.link_loader.specs.Loading.{Load, begun}
@@ -9,12 +8,11 @@ use Rattle.noisy_model.specs.declared.packet.Packet.{Packet}
 use Rattle.noisy_model.specs.Ends.{LoaderEnd, Taken}
 use Rattle.noisy_link.specs.Sides.{puts_of}
 use Rattle.packet_service.specs.declared.datagrams.Gathered.TheVariants as gathering
-use Rattle.packet_service.specs.declared.datagrams.TheConstants.{LONGEST}
 use Rattle.packet_service.specs.declared.loading.PacketsFault.{PacketsFault}
 use Rattle.packet_service.specs.declared.loading.PacketsFault.TheVariants.{ReadFault, WriteFault, FileFault, Changed, TooLong, Ended, Memory}
-use Rattle.packet_service.specs.Datagrams.{datagram, stream_of, IsPart, AreDatagrams, IsTooLong, gathered}
+use Rattle.packet_service.specs.Datagrams.{stream_of, gathered}
 use Rattle.packet_service.specs.Serving.{stream_of_packets}
-use Rattle.packet_service.specs.Loading.{Sinks, sent_by, TakesDatagram, TakesAll, AreTaken, IsLoading, FailsAt, IsTaken, LoadStopsAt, Loading, LoadingAll}
+use Rattle.packet_service.specs.Loading.{Sinks, sent_by, TakesDatagram, TakesAll, IsLoading, FailsAt, IsTaken, LoadStopsAt, Loading, LoadingAll}
 use Rattle.packet_service.proofs.Parts.{part_more, part_whole, part_long, stream_on}
 use Rattle.std.specs.Prelude.{IsErrAnd}
 use Rattle.tach_media.proofs.Runs.{err_is}

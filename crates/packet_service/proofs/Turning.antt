@@ -1,15 +1,13 @@
 -- A service of packets, read after read.
-use Rattle.std.proofs.Common.{◌≡◌, ◌∙◌, ℕ, ◌+◌, ◌<◌, ◌≤◌, false, List, [], ◌∷◌, ◌++◌, length, take, Option, Some, None, IfSome, Result, Ok, Err, refl, sym, ap, subst, inl, inr, arith, append_assoc, append-nil, length-append}
+use Rattle.std.proofs.Common.{◌≡◌, ◌∙◌, ℕ, ◌+◌, ◌<◌, ◌≤◌, false, List, [], ◌∷◌, ◌++◌, length, take, Option, Some, IfSome, Result, Ok, Err, sym, ap, subst, inl, inr, arith, append-nil, length-append}
 use Rattle.std.specs.Prelude.{IsErrAnd}
-use Rattle.std.specs.Io.KnownBytes.{Appends, Consumes, Keeps}
+use Rattle.std.specs.Io.KnownBytes.{Consumes, Keeps}
 use Rattle.std.proofs.KnownBytes.{Consumes-nil, Consumes-trans, Consumes-kept}
-use Rattle.std.proofs.Math.Seq.{take-append-add}
 use Rattle.tach_media.specs.Medium.{State}
 use Rattle.tach_media.proofs.Runs.{err_is}
 use Rattle.unit_memory.proofs.Told.{told_all}
 use Rattle.unit_messages.proofs.Calls.{no_call, any_then}
 use Rattle.unit_minutes.specs.Reading.{ReadsIfAny}
-use Rattle.unit_minutes.proofs.IfAny.{read_same}
 use Rattle.link_model.specs.Answers.{Idle}
 use Rattle.link_session.specs.Told.{SessionView, Knows, fresh}
 use Rattle.unit_download.proofs.Talking.{fresh_knows}
@@ -17,11 +15,11 @@ use Rattle.noisy_model.specs.Ends.{UnitEnd}
 use Rattle.link_session.specs.declared.fault.ServeFault.{ServeFault}
 use Rattle.link_session.specs.declared.fault.ServeFault.TheVariants.{ReadFault, WriteFault, Failed, BadUnit, TooLong}
 use Rattle.link_session.specs.Asked.{Asking, TellsMore, AnswersInTime}
-use Rattle.link_session.proofs.Asked.{IsTimely, timely_none, timely_on, timely_told, consumed_end}
+use Rattle.link_session.proofs.Asked.{IsTimely, timely_none, timely_on, timely_told}
 use Rattle.packet_service.specs.declared.serving.UnitLine.{UnitLine}
 use Rattle.packet_service.specs.declared.serving.TheConstants.{MOST_TURNS}
 use Rattle.packet_service.specs.Datagrams.{IsPart}
-use Rattle.packet_service.specs.Serving.{IsServing, StopsAt, Serving, ServingAll, AllAnswered, PacketsSend, ArePacketsServed, fresh_end}
+use Rattle.packet_service.specs.Serving.{IsServing, StopsAt, ServingAll, AllAnswered, PacketsSend, ArePacketsServed, fresh_end}
 use Rattle.packet_service.proofs.Answering.{serving_none}
 
 -- what is told of each read: all that had come was answered

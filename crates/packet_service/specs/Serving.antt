@@ -1,6 +1,6 @@
 -- What a unit's end answers to datagrams, and how its service ends.
-use Rattle.std.specs.Prelude.{◌≡◌, ◌⊎◌, ℕ, ◌≤◌, Bool, true, false, List, [], ◌∷◌, ◌++◌, length, take, map, Option, Some}
-use Rattle.std.specs.Prelude.{None, IfSome, option_to_list, Result, Ok, Err}
+use Rattle.std.specs.Prelude.{◌≡◌, ◌⊎◌, ℕ, ◌≤◌, List, [], ◌∷◌, ◌++◌, length, take, map, Option, Some}
+use Rattle.std.specs.Prelude.{None, option_to_list, Result, Ok, Err}
 use Rattle.std.specs.Io.KnownBytes.{Appends, Consumes}
 use Rattle.tach_media.specs.Streams.{AppendsFront}
 use Rattle.link_model.specs.Answers.{Idle}
@@ -12,9 +12,8 @@ use Rattle.noisy_link.specs.Sides.{IsReply}
 use Rattle.noisy_link.specs.Steps.{AsksUnit}
 use Rattle.link_session.specs.declared.fault.ServeFault.{ServeFault}
 use Rattle.link_session.specs.declared.fault.ServeFault.TheVariants.{ReadFault, WriteFault, Failed, BadUnit, TooLong}
-use Rattle.packet_service.specs.declared.datagrams.TheConstants.{LONGEST}
 use Rattle.packet_service.specs.declared.serving.TheConstants.{MOST_TURNS}
-use Rattle.packet_service.specs.Datagrams.{datagram, stream_of, AreDatagrams, IsTooLong}
+use Rattle.packet_service.specs.Datagrams.{stream_of, AreDatagrams, IsTooLong}
 
 -- packets as datagrams, one after the other
 abbrev pub stream_of_packets : List Packet → List ℕ

@@ -1,5 +1,5 @@
 -- What an action of a second leaves of the events that are noted so far.
-use Rattle.std.proofs.Common.{◌≡◌, ◌∙◌, ℕ, suc, ◌+◌, Bool, true, false, Option, Some, None, List, [], ◌∷◌, ◌++◌, length, map, refl, ap, sym, subst, arith, ⊎_elim}
+use Rattle.std.proofs.Common.{◌≡◌, ◌∙◌, ℕ, suc, Bool, true, false, Option, Some, None, List, [], ◌∷◌, ◌++◌, length, map, refl, ap, sym, subst, arith, ⊎_elim}
 use Rattle.activity_codec.specs.declared.values.Slot.{Slot}
 use Rattle.activity_codec.specs.declared.values.Slot.TheVariants.{Driver, CoDriver}
 use Rattle.trace_model.specs.declared.Card.{Card}
@@ -44,7 +44,7 @@ use Rattle.run_acts.proofs.NotedEvents.{same-says}
 use Rattle.run_acts.proofs.FallEvented.{begins-now}
 use Rattle.run_acts.proofs.Asked.{pulls-one}
 use Rattle.run_acts.specs.ByHand.{stopped_in}
-use Rattle.recorder_with_cards.proofs.ActsRecorded.{refuses, refused}
+use Rattle.recorder_with_cards.proofs.ActsRecorded.{refuses}
 use Rattle.recorder_with_cards.proofs.Staying.{StaysWatched}
 use Rattle.recorder_with_cards.proofs.SlotLines.{whose, stop-by-session, refusal-by-slots, log-one, log-stop}
 

@@ -1,5 +1,5 @@
 -- A span that begins at a power-on.
-use Rattle.std.proofs.Common.{◌≡◌, ℕ, ◌-◌, Option, Some, None, refl, subst, arith}
+use Rattle.std.proofs.Common.{◌≡◌, ℕ, Option, Some, None, refl, subst, arith}
 use Rattle.trace_model.specs.declared.Card.{Card}
 use Rattle.minute_rules.specs.minute_model.declared.Rule.{Rule}
 use Rattle.minute_rules.specs.minute_model.Span.{begin}

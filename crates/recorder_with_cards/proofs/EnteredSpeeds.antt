@@ -1,5 +1,5 @@
 -- What a card that enters, the reading of the unit and its mending leave of the detailed speed.
-use Rattle.std.proofs.Common.{◌≡◌, ◌∙◌, ◌+◌, ◌≤◌, inl, inr, ℕ, Bool, List, [], ◌∷◌, take, drop, sym, ap, arith}
+use Rattle.std.proofs.Common.{◌∙◌, inl, inr, ℕ, Bool, List, [], ◌∷◌, take, drop, sym, ap, arith}
 use Rattle.std.proofs.lemmas.List.{drop-drop}
 use Rattle.tach_media.specs.Medium.{State, IsCoherent, LeavesOnly, Unchanged}
 use Rattle.run_acts.specs.unit_notes.Entries.{fault_bytes}
@@ -7,8 +7,8 @@ use Rattle.unit_minutes.specs.Mends.{IsMending}
 use Rattle.unit_minutes.specs.declared.notes.Notes.{Notes}
 use Rattle.run_acts.specs.run_speeds.Speeds.{HasSameSpeeds, LeavesSpeeds}
 use Rattle.run_acts.proofs.run_speeds.Leaving.{leaves-moments, same-before}
-use Rattle.run_acts.proofs.run_events.NoteSpeeds.{same-speeds, speeds-then, event-speeds, noted-speeds}
-use Rattle.run_insertion.specs.Noted.{AreDone, AreBeingDone, HasNoted, UnitNote, Inserts, BeginsRow, Tells, IsOnUnit, IsComing}
+use Rattle.run_acts.proofs.run_events.NoteSpeeds.{speeds-then, event-speeds, noted-speeds}
+use Rattle.run_insertion.specs.Noted.{AreBeingDone, HasNoted, UnitNote, Inserts, BeginsRow, Tells, IsOnUnit, IsComing}
 
 -- ---- the notes of a card that enters
 

@@ -1,5 +1,5 @@
 -- What the last-kept minutes of the unit's images tell, by the book that follows the history.
-use Rattle.std.proofs.Common.{ℕ, ◌+◌, ◌≤◌, All, Option, Some, None, List, [], ◌∷◌, ◌++◌, Contains, refl, subst}
+use Rattle.std.proofs.Common.{ℕ, ◌≤◌, All, Option, Some, None, List, [], ◌∷◌, ◌++◌, Contains, refl, subst}
 use Rattle.std.proofs.lemmas.List.Elements.{All-contains}
 use Rattle.log_model.specs.run_model.declared.Device.TheVariants.{Unit as Recorder}
 use Rattle.tach_media.specs.Medium.{State}

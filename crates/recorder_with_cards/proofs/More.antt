@@ -1,5 +1,5 @@
 -- An insertion takes no break away.
-use Rattle.std.proofs.Common.{◌⊎◌, ⊎_elim, ℕ, ◌≤◌, Bool, true, false, List, length, ap, arith, length-append}
+use Rattle.std.proofs.Common.{⊎_elim, ℕ, ◌≤◌, Bool, true, false, List, length, ap, arith, length-append}
 use Rattle.activity_codec.specs.declared.values.Slot.{Slot}
 use Rattle.activity_codec.specs.declared.values.Slot.TheVariants.{Driver, CoDriver}
 use Rattle.trace_model.specs.declared.Card.{Card}

@@ -1,5 +1,5 @@
 -- A run whose next second has a selection more.
-use Rattle.std.proofs.Common.{ℕ, ◌-◌}
+use Rattle.std.proofs.Common.{ℕ}
 use Rattle.activity_codec.specs.declared.values.Slot.{Slot}
 use Rattle.activity_codec.specs.declared.values.Pick.{Pick}
 use Rattle.tach_media.specs.Medium.{State}

@@ -1,5 +1,5 @@
 -- A run as the opening leaves it.
-use Rattle.std.proofs.Common.{◌≡◌, ◌-◌, None, List, length, ap, arith}
+use Rattle.std.proofs.Common.{◌≡◌, None, List, length, ap, arith}
 use Rattle.std.specs.Prelude.{Result, Ok, Err, IfErr}
 use Rattle.trace_model.specs.declared.Card.{Card}
 use Rattle.trace_model.specs.declared.Card.TheVariants.{A, B}

@@ -1,5 +1,5 @@
 -- Calls that store nothing: reading the unit, and mending it.
-use Rattle.std.proofs.Common.{◌≡◌, ◌⊎◌, ⊎_elim, List, ℕ, refl}
+use Rattle.std.proofs.Common.{◌≡◌, ⊎_elim, List, ℕ, refl}
 use Rattle.tach_media.specs.Medium.{IsCoherent, LeavesOnly, Unchanged}
 use Rattle.unit_minutes.specs.unit_model.Image.{last_kept, odometer_at}
 use Rattle.unit_minutes.specs.declared.notes.Notes.{Notes}

@@ -1,5 +1,5 @@
 -- Power comes with a second, and the unit fails before its span begins: what it has stored of odometers stands, and the span is that second alone.
-use Rattle.std.proofs.Common.{◌≡◌, ◌∙◌, ℕ, ◌+◌, ◌-◌, ◌≤◌, Bool, true, false, cond, not, Option, Some, None, is_some, List, [], ◌∷◌, ◌++◌, take, refl, ap, sym, subst, arith, append-nil}
+use Rattle.std.proofs.Common.{◌≡◌, ◌∙◌, ℕ, ◌≤◌, Bool, true, false, cond, not, Option, Some, None, is_some, List, [], ◌∷◌, ◌++◌, take, refl, ap, sym, subst, arith, append-nil}
 use Rattle.std.proofs.lemmas.List.Elements.{Contains-append_left}
 use Rattle.trace_model.specs.Trace.{TraceSecond}
 use Rattle.minute_rules.specs.minute_model.Activity.{last}

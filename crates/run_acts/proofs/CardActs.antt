@@ -1,5 +1,5 @@
 -- Actions that bring the cards no events: a place, a withdrawal.
-use Rattle.std.proofs.Common.{◌≡◌, ◌∙◌, inr, suc, ◌+◌, Bool, true, false, None, List, [], ◌∷◌, ◌++◌, length, sym, ap, subst, append_assoc}
+use Rattle.std.proofs.Common.{◌≡◌, ◌∙◌, inr, suc, Bool, true, false, None, List, [], ◌∷◌, ◌++◌, length, sym, ap, subst, append_assoc}
 use Rattle.activity_codec.specs.declared.values.Slot.{Slot}
 use Rattle.trace_model.specs.declared.Action.{Action}
 use Rattle.trace_model.specs.declared.Action.TheVariants.{Place}

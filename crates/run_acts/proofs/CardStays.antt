@@ -1,5 +1,5 @@
 -- Calls that leave the events of cards: minutes are kept, a place is noted, a session is closed.
-use Rattle.std.proofs.Common.{◌≡◌, ◌∙◌, ◌⊎◌, ⊎_elim, ℕ, ◌≤◌, Bool, true, false, not, ◌||◌, is_some, Option, Some, None, IfSome, List, [], refl, sym, ap, subst, arith}
+use Rattle.std.proofs.Common.{◌≡◌, ◌∙◌, ⊎_elim, ℕ, ◌≤◌, Bool, true, false, not, ◌||◌, is_some, Option, Some, None, IfSome, List, [], refl, sym, ap, subst, arith}
 use Rattle.activity_codec.specs.declared.values.Activity.{Activity}
 use Rattle.trace_model.specs.declared.Card.{Card}
 use Rattle.trace_model.specs.Trace.{TraceSecond}

@@ -1,5 +1,5 @@
 -- What an action writes on the card that it is about: proofs.
-use Rattle.std.proofs.Common.{◌≡◌, ◌⊎◌, ◌∙◌, ⊎_elim, ℕ, ◌≤◌, Bool, true, false, cond, Option, Some, None, IfSome, is_some, List, refl, sym, ap, subst}
+use Rattle.std.proofs.Common.{◌≡◌, ◌∙◌, ⊎_elim, ℕ, ◌≤◌, Bool, true, false, cond, Option, Some, None, IfSome, is_some, List, refl, sym, ap, subst}
 use Rattle.std.specs.Prelude.{Ok}
 use Rattle.trace_model.specs.declared.Card.{Card}
 use Rattle.trace_model.specs.declared.Card.TheVariants.{A, B}

@@ -1,5 +1,5 @@
 -- What the keeping of minutes leaves of the devices is what a call leaves of them: what might have been left might be left still, and a card that was as it was is so, or has a session.
-use Rattle.std.proofs.Common.{◌≡◌, ◌⊎◌, inl, inr, ⊎_elim, ℕ, ◌+◌, ◌-◌, ◌≤◌, Bool, true, Option, Some, None, is_some, List, [], refl, subst, ◌∙◌, arith}
+use Rattle.std.proofs.Common.{◌≡◌, ◌⊎◌, inl, inr, ⊎_elim, ℕ, ◌+◌, ◌≤◌, Bool, true, Option, Some, None, is_some, List, [], refl, subst, ◌∙◌, arith}
 use Rattle.std.proofs.lemmas.Bool.{cases_lt}
 use Rattle.trace_model.specs.declared.Card.{Card}
 use Rattle.trace_model.specs.declared.Card.TheVariants.{A, B}
@@ -12,7 +12,7 @@ use Rattle.run_crew.specs.declared.cards.Cards.{Cards}
 use Rattle.run_crew.specs.Cards.{session_of}
 use Rattle.run_minutes.specs.run_promise.Found.{CardFound, found_of}
 use Rattle.run_minutes.specs.run_promise.Cards.{IsUntouched}
-use Rattle.run_minutes.specs.run_promise.Between.{RunLedger, devices}
+use Rattle.run_minutes.specs.run_promise.Between.{RunLedger}
 use Rattle.run_minutes.specs.run_devices.Measured.{Reading}
 use Rattle.run_minutes.specs.run_devices.Told.{DevicesPowered}
 use Rattle.run_minutes.specs.run_promise.Origin.{Origin}

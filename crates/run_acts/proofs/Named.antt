@@ -1,5 +1,5 @@
 -- Events name valid cards alone.
-use Rattle.std.proofs.Common.{◌≡◌, ◌∙◌, ℕ, ◌+◌, true, Option, Some, None, IfSome, is_some, List, [], ◌∷◌, ◌++◌, length, take_all, refl, ap, sym, subst, arith, append-nil}
+use Rattle.std.proofs.Common.{◌≡◌, ◌∙◌, ℕ, true, Option, Some, None, IfSome, is_some, List, [], ◌∷◌, ◌++◌, length, take_all, refl, ap, sym, subst, arith, append-nil}
 use Rattle.activity_codec.specs.declared.values.Slot.{Slot}
 use Rattle.activity_codec.specs.declared.values.Slot.TheVariants.{Driver, CoDriver}
 use Rattle.trace_model.specs.declared.Card.{Card}

@@ -1,5 +1,5 @@
 -- What the rings of a second need of its record: how later lines go on with it, and a cut; who sits where; and its odometer.
-use Rattle.std.proofs.Common.{◌≡◌, ◌∙◌, ◌⊎◌, inl, inr, ⊎_elim, ℕ, zero, suc, ◌+◌, ◌-◌, ◌/◌, ◌≤◌, min, Bool, true, false, cond, not, ◌||◌, Option, Some, None, is_some, nat_eq, List, [], ◌∷◌, ◌++◌, length, map, take, sum_by, refl, ap, sym, subst, arith, append_assoc, length-append}
+use Rattle.std.proofs.Common.{◌≡◌, ◌∙◌, ◌⊎◌, inl, inr, ⊎_elim, ℕ, zero, suc, ◌+◌, ◌/◌, ◌≤◌, min, Bool, true, false, cond, not, ◌||◌, Option, Some, None, is_some, nat_eq, List, [], ◌∷◌, ◌++◌, length, map, take, sum_by, refl, ap, sym, subst, arith, append_assoc, length-append}
 use Rattle.std.specs.Prelude.{nat_lt}
 use Rattle.std.specs.List.{AllByRecursion}
 use Rattle.std.proofs.Math.Seq.{take-append_seam}

@@ -1,5 +1,5 @@
 -- The entries by hand of a run as minutes are kept in a keeping: what each keep is given, and which mark is its own.
-use Rattle.std.proofs.Common.{◌≡◌, ℕ, ◌/◌, ◌≤◌, Bool, true, false, cond, Option, Some, None, List, [], ◌∷◌, ◌++◌, Contains, map, refl, ap, sym, subst, ◌∙◌, arith, append-nil, ⊎_elim, suc, ◌⊎◌, ◌+◌, All, length, ◌<◌}
+use Rattle.std.proofs.Common.{◌≡◌, ℕ, ◌/◌, ◌≤◌, Bool, true, false, cond, Option, Some, None, List, [], ◌∷◌, ◌++◌, Contains, map, refl, ap, sym, subst, ◌∙◌, arith, append-nil, ⊎_elim, suc, ◌+◌, All, length, ◌<◌}
 use Rattle.std.specs.Prelude.{if◌then◌else◌}
 use Rattle.std.proofs.lemmas.List.Elements.{filter-append, Contains-push, All-filter, All-weaker, Contains-push_cases, Contains-append_cases, Contains-append_right}
 use Rattle.activity_codec.specs.declared.values.Slot.{Slot}

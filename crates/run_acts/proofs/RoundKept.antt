@@ -1,5 +1,5 @@
 -- A keeping is recorded, as far as it came.
-use Rattle.std.proofs.Common.{◌≡◌, ◌⊎◌, inl, inr, ⊎_elim, ℕ, ◌+◌, ◌-◌, true, false, Option, Some, None, is_some, List, [], ◌++◌, length, map, refl, ap, sym, subst, ◌∙◌, arith, append-nil}
+use Rattle.std.proofs.Common.{◌≡◌, inl, inr, ⊎_elim, ℕ, ◌+◌, ◌-◌, true, false, Option, Some, None, is_some, List, [], ◌++◌, length, map, refl, ap, sym, subst, ◌∙◌, arith, append-nil}
 use Rattle.std.proofs.lemmas.Bool.{cases_lt}
 use Rattle.std.proofs.lemmas.List.{length-map}
 use Rattle.trace_model.specs.declared.Card.TheVariants.{A, B}

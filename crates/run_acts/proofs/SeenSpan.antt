@@ -1,5 +1,5 @@
 -- The span of a second, as its events see it, and what a turn of it ends.
-use Rattle.std.proofs.Common.{◌≡◌, ◌∙◌, ℕ, ◌+◌, Bool, true, false, cond, Option, Some, None, List, [], ◌∷◌, ◌++◌, length, refl, ap}
+use Rattle.std.proofs.Common.{◌≡◌, ◌∙◌, ℕ, Bool, true, false, cond, Option, Some, None, List, [], ◌∷◌, ◌++◌, length, refl, ap}
 use Rattle.std.specs.Prelude.{fold, option_map, IfSome, map}
 use Rattle.std.specs.List.{AllByRecursion, cons_option, filter_map}
 use Rattle.activity_codec.specs.declared.values.Slot.{Slot}

@@ -1,5 +1,5 @@
 -- Worked rows: what is true of three seconds in which a card is withdrawn, and of two corners of one second.
-use Rattle.std.proofs.Common.{◌≡◌, ◌∙◌, ⊎_elim, ℕ, ◌+◌, true, false, ◌||◌, Some, List, [], ◌∷◌, ◌++◌, Contains, length, refl, ap, subst, arith}
+use Rattle.std.proofs.Common.{◌≡◌, ◌∙◌, ⊎_elim, ℕ, true, false, ◌||◌, Some, List, [], ◌∷◌, ◌++◌, Contains, length, refl, ap, subst, arith}
 use Rattle.std.specs.List.{list_any}
 use Rattle.std.proofs.lemmas.List.Elements.{Contains-push_cases}
 use Rattle.activity_codec.specs.declared.values.Activity.TheVariants as activity

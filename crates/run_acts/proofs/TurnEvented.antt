@@ -1,5 +1,5 @@
 -- The minutes that seconds of one minute decide are kept behind them, and what has ended is noted: the events behind them.
-use Rattle.std.proofs.Common.{◌≡◌, ◌∙◌, ◌⊎◌, ⊎_elim, ℕ, suc, ◌+◌, ◌-◌, ◌/◌, ◌^◌, ◌≤◌, ◌<◌, Bool, true, false, Some, List, [], ◌∷◌, ◌++◌, length, refl, ap, sym, subst, arith}
+use Rattle.std.proofs.Common.{◌≡◌, ◌∙◌, ⊎_elim, ℕ, suc, ◌+◌, ◌-◌, ◌/◌, ◌^◌, ◌≤◌, ◌<◌, Bool, true, false, Some, List, [], ◌∷◌, ◌++◌, length, refl, ap, sym, subst, arith}
 use Rattle.trace_model.specs.Trace.{TraceSecond}
 use Rattle.log_model.specs.run_model.declared.Device.{Device}
 use Rattle.log_model.specs.run_model.declared.Device.TheVariants.{Unit as Recorder}
@@ -16,7 +16,6 @@ use Rattle.unit_model.specs.Image.{IsUnit, odometer_at}
 use Rattle.device_calls.specs.unit_rule.Odometer.{odometer_after}
 use Rattle.device_calls.specs.run_unit_course.Followed.{Lit as IsLit, Lost as IsLost}
 use Rattle.unit_notes.specs.event_model.Events.{Event, Seen, seen_of, seen_spans}
-use Rattle.run_events.specs.Watched.{watched}
 use Rattle.run_events.specs.Turned.{AreEnded, AreLow}
 use Rattle.device_calls.specs.safety_model.Safe.{Devices, breakdowns_of}
 use Rattle.unit_notes.specs.declared.unit_event.UnitEvent.{UnitEvent}

@@ -1,5 +1,5 @@
 -- The current use of a card, as calls write its file or leave it.
-use Rattle.std.proofs.Common.{◌≡◌, ◌⊎◌, inl, inr, ⊎_elim, ℕ, ◌+◌, ◌<◌, ◌≤◌, ◌^◌, List, [], ◌∷◌, length, sym, ◌∙◌, ap, arith}
+use Rattle.std.proofs.Common.{◌≡◌, inl, inr, ⊎_elim, ℕ, ◌+◌, ◌<◌, ◌≤◌, ◌^◌, List, [], ◌∷◌, length, sym, ◌∙◌, ap, arith}
 use Rattle.tach_media.specs.card_layout.Images.{big_number, bytes_at, SameOutside}
 use Rattle.tach_media.proofs.card_layout.Images.{part_after, part_put, part_in, put_outside}
 use Rattle.tach_media.proofs.card_layout.Numbers.{big_number-big_bytes}

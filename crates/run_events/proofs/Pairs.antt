@@ -1,5 +1,5 @@
 -- What has ended of a span's seconds, and of these as they are watched, one for one.
-use Rattle.std.proofs.Common.{◌≡◌, ◌∙◌, ℕ, ◌+◌, Bool, true, false, cond, Option, Some, None, List, [], ◌∷◌, ◌++◌, length, map, fold, max, sum, ◌/◌, refl, ap, sym, subst, nat_lt}
+use Rattle.std.proofs.Common.{◌≡◌, ◌∙◌, ℕ, Bool, true, false, cond, Option, Some, None, List, [], ◌∷◌, ◌++◌, length, map, fold, max, sum, ◌/◌, refl, ap, sym, subst, nat_lt}
 use Rattle.std.specs.Prelude.{option_map, not, ◌&&◌, is_some, flat_map}
 use Rattle.std.specs.List.{filter_map, cons_option}
 use Rattle.trace_model.specs.declared.Card.{Card}

@@ -1,5 +1,5 @@
 -- What the notes of a span's events leave of a unit (profile).
-use Rattle.std.specs.Prelude.{◌≡◌, ◌⊎◌, ℕ, ◌+◌, Option, Some, None, option_to_list, List, ◌++◌}
+use Rattle.std.specs.Prelude.{◌≡◌, ◌⊎◌, ℕ, Option, Some, None, option_to_list, List, ◌++◌}
 use Rattle.event_model.specs.declared.kinds.TheConstants.{DRIVING_WITHOUT_CARD}
 use Rattle.unit_notes.specs.Entries.{fault_bytes, over_bytes}
 use Rattle.unit_notes.specs.Noting.{IsNotingEvent, IsEventNoted, IsNotingOver, IsOverNoted}

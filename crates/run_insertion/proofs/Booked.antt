@@ -1,5 +1,5 @@
 -- What is carried of a card that enters: as it is revived, judged, turned away, torn out or taken in.
-use Rattle.std.proofs.Common.{max, ◌+◌, ◌++◌, append-nil, ◌≡◌, ◌≢◌, ◌⊎◌, ◌∙◌, inl, inr, ⊎_elim, ℕ, ◌^◌, ◌<◌, ◌≤◌, Bool, true, false, Option, Some, None, IfSome, List, [], length, refl, ap, sym, subst, arith}
+use Rattle.std.proofs.Common.{max, ◌++◌, append-nil, ◌≡◌, ◌≢◌, ◌⊎◌, ◌∙◌, inl, inr, ⊎_elim, ℕ, ◌^◌, ◌<◌, ◌≤◌, Bool, true, false, Option, Some, None, IfSome, List, [], length, refl, ap, sym, subst, arith}
 use Rattle.std.specs.Prelude.{Result, Ok, IsOk, IfOk}
 use Rattle.activity_codec.specs.declared.entries.Entry.{Entry}
 use Rattle.trace_model.specs.declared.Card.{Card}

@@ -1,5 +1,5 @@
 -- A card that was written as it entered told of no later time.
-use Rattle.std.proofs.Common.{◌≡◌, ◌⊎◌, inl, inr, ⊎_elim, ℕ, ◌≤◌, Option, IfSome, List, sym, subst}
+use Rattle.std.proofs.Common.{◌≡◌, inl, inr, ⊎_elim, ℕ, ◌≤◌, Option, IfSome, List, sym, subst}
 use Rattle.tach_media.specs.Medium.{State, IsCoherent, LeavesOnly, Unchanged}
 use Rattle.tach_media.proofs.Runs.{goes_same, at_image, if_told, both_told, from_told, told_too, revived}
 use Rattle.card_layout.specs.declared.files.Application.{Application}

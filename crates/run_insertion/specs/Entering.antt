@@ -22,7 +22,6 @@ use Rattle.log_model.specs.declared.lines.Verdict.TheVariants as verdict
 use Rattle.log_model.specs.Causes.{device_of}
 use Rattle.device_calls.specs.declared.entering.Entered.{Entered}
 use Rattle.hand_model.specs.Holding.{none_held}
-use Rattle.run_crew.specs.declared.cards.Accepted.{Accepted}
 use Rattle.run_crew.specs.declared.cabin.Cabin.{Cabin}
 use Rattle.run_crew.specs.Cabin.{torn_out, with_sizes_of, with_accepted}
 use Rattle.run_outcome.specs.Lines.{Listed}

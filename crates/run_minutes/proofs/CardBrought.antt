@@ -26,7 +26,7 @@ use Rattle.device_calls.proofs.card_by_hand.Fresh.{first_valid}
 use Rattle.device_calls.specs.card_string.Since.{HoldsSince, SitsSince, bound_since, counted_since, all_since}
 use Rattle.device_calls.specs.card_string.Each.{EachHolds}
 use Rattle.run_devices.specs.history_model.Minutes.{HistoryMinute, card_history}
-use Rattle.run_devices.specs.history_model.Book.{Book, all}
+use Rattle.run_devices.specs.history_model.Book.{Book}
 use Rattle.run_devices.proofs.history_model.Books.{all-none}
 use Rattle.run_devices.specs.device_rule.Views.{UnitView, unit_view}
 use Rattle.run_devices.specs.device_rule.Device.{LeavesViews, EndsWith}

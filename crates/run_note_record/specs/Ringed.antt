@@ -1,5 +1,5 @@
 -- What the rings of insertions and places of a unit carry of a run with cards (profile), from note to note.
-use Rattle.std.specs.Prelude.{◌≡◌, ◌⊎◌, ℕ, suc, ◌+◌, ◌<◌, ◌≤◌, ◌^◌, Bool, true, false, Option, Some, None, IfSome}
+use Rattle.std.specs.Prelude.{◌≡◌, ◌⊎◌, ℕ, suc, ◌<◌, ◌≤◌, ◌^◌, Bool, true, false, Option, Some, None, IfSome}
 use Rattle.std.specs.Prelude.{option_map, List, [], ◌∷◌, ◌++◌, length}
 use Rattle.std.specs.List.{AllByRecursion, list_any}
 use Rattle.run_devices.specs.trace_model.declared.Action.{Action}
@@ -248,7 +248,8 @@ FewerSit d = (o : Since) (log : RunLog) (spans : List SpanFrom) (notes : List No
 abbrev pub AnInsertionIsNoted : (d e : Devices) → Type 0
 AnInsertionIsNoted d e = (o : Since) (log : RunLog) (spans : List SpanFrom) (notes : List Note)
     (seats now : Card → Option Seating) → Ringed o log spans notes seats d → HaveLeftMore o.origin d e
-    → (a : Acceptance) → IsPutIn o.moves a.card a.second → CardsGo o.origin spans (OpensIn log a) d e → Opens o.origin log a e
+    → (a : Acceptance) → IsPutIn o.moves a.card a.second → CardsGo o.origin spans (OpensIn log a) d e
+    → Opens o.origin log a e
     → (head : List ℕ) (index : ℕ) → WritesRing (IsAddedAt index head) d e →
     length head ≡ insertion_ring.width → IsInsertionIn o log spans e (record { accepted = a; withdrawn = None }) head →
     ((c : Card) → ((same_card a.card c ≡ false) × (now c ≡ option_map one_behind (seats c)))
@@ -283,8 +284,8 @@ AWithdrawalIsNoted d e = (o : Since) (log : RunLog) (spans : List SpanFrom) (not
 abbrev pub AnInsertionIsBroken : (d e : Devices) → Type 0
 AnInsertionIsBroken d e = (o : Since) (log : RunLog) (spans : List SpanFrom) (notes : List Note)
     (seats : Card → Option Seating) → Ringed o log spans notes seats d → HaveLeftMore o.origin d e
-    → (a : Acceptance) → IsPutIn o.moves a.card a.second → CardsGo o.origin spans (OpensIn log a) d e → (head : List ℕ) →
-    WritesRing (MayBeAdded insertion_ring head) d e → length head ≡ insertion_ring.width →
+    → (a : Acceptance) → IsPutIn o.moves a.card a.second → CardsGo o.origin spans (OpensIn log a) d e
+    → (head : List ℕ) → WritesRing (MayBeAdded insertion_ring head) d e → length head ≡ insertion_ring.width →
     IsInsertionIn o log spans e (record { accepted = a; withdrawn = None }) head → has_failed_in log a.second ≡ true
     → Ringed o log spans (notes ++ Accepts a ∷ []) (λ c. None) e
 

@@ -1,6 +1,6 @@
 -- What is carried of the rings WITHIN A SECOND (profile): the notes of the seconds before it, and its own up to some of
 -- its actions.
-use Rattle.std.specs.Prelude.{◌≡◌, ◌⊎◌, ℕ, suc, ◌+◌, ◌<◌, true, false, not, Option, Some, None, List, [], ◌∷◌, ◌++◌}
+use Rattle.std.specs.Prelude.{◌≡◌, ◌⊎◌, ℕ, suc, ◌<◌, true, false, not, Option, Some, None, List, [], ◌∷◌, ◌++◌}
 use Rattle.std.specs.Prelude.{All, map, length}
 use Rattle.std.specs.List.{AllByRecursion}
 use Rattle.run_devices.specs.trace_model.declared.Action.{Action}

@@ -17,7 +17,6 @@ use Rattle.run_course.specs.log_model.Course.{ToldSecond, Went, went}
 use Rattle.run_course.specs.history_model.Minutes.{HistoryMinute}
 use Rattle.run_course.specs.history_model.History.{seated, minutes_after, decided_of}
 use Rattle.run_course.specs.history_model.Completeness.{FailedCutIn}
-use Rattle.run_course.specs.history_model.Book.{found}
 use Rattle.run_course.proofs.history_model.Closing.{minutes-parts}
 use Rattle.unit_rule.specs.run_unit_course.Caused.{cuts_by}
 use Rattle.unit_rule.specs.run_unit_course.Lines.{cut_at}

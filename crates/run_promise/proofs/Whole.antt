@@ -1,6 +1,6 @@
 -- Where no failed call has cut the power, an accepted card that none has torn out has all of its entries, but those
 -- behind a `tear` line.
-use Rattle.std.proofs.Common.{◌≡◌, ◌⊎◌, ⊎_elim, ℕ, ◌+◌, ◌<◌, ◌≤◌, Bool, true, false, cond, List, [], ◌∷◌, ◌++◌, All, Contains, refl, ap, sym, subst, ◌∙◌, arith}
+use Rattle.std.proofs.Common.{◌≡◌, ⊎_elim, ℕ, ◌<◌, ◌≤◌, Bool, true, false, cond, List, [], ◌∷◌, ◌++◌, All, Contains, refl, ap, sym, subst, ◌∙◌, arith}
 use Rattle.std.specs.Prelude.{flat_map, map, filter}
 use Rattle.std.proofs.lemmas.List.{append_cancel_left}
 use Rattle.std.proofs.lemmas.List.Elements.{All-contains, filter-append, Contains-append_left, Contains-append_right, Contains-push_cases, Contains-append_cases}
@@ -27,7 +27,6 @@ use Rattle.run_course.specs.history_model.History.{settlings_of, decided_of}
 use Rattle.run_course.specs.history_model.Completeness.{deciding_of, IsMarked}
 use Rattle.run_course.proofs.history_model.Books.{history-append, history-one, history-none, on_card-minute}
 use Rattle.unit_rule.specs.card_image.Own.{own_view, own_number, IsOwnValid}
-use Rattle.unit_rule.specs.device_rule.Views.{owed}
 use Rattle.run_course.proofs.history_model.Decided.{unit-decided}
 use Rattle.unit_rule.specs.safety_model.Recording.{Recording, card_image, told_of, brought, start_of, history_of, unit_seen}
 use Rattle.unit_rule.specs.safety_model.Unit.{marks_of}

@@ -1,5 +1,5 @@
 -- An action that changes no slot: it is refused, or selects an activity.
-use Rattle.std.proofs.Common.{◌≡◌, ℕ, inl, suc, ◌+◌, ◌-◌, None, List, [], ◌∷◌, ◌++◌, length, refl, sym, ◌∙◌, subst, arith, Option, ap}
+use Rattle.std.proofs.Common.{◌≡◌, ℕ, inl, suc, None, List, [], ◌∷◌, ◌++◌, length, refl, sym, ◌∙◌, subst, arith, Option, ap}
 use Rattle.minute_rules.specs.activity_codec.declared.values.Slot.{Slot}
 use Rattle.minute_rules.specs.activity_codec.declared.values.Pick.{Pick}
 use Rattle.run_devices.specs.trace_model.declared.Action.TheVariants.{Select, Place}

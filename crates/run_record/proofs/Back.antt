@@ -1,5 +1,5 @@
 -- The cards with sessions left a slot last no later than in the first minute that is still to be kept.
-use Rattle.std.proofs.Common.{◌≡◌, ◌⊎◌, inl, ⊎_elim, ℕ, ◌+◌, ◌/◌, ◌≤◌, true, Option, Some, None, IfSome, nat_eq, List, [], ◌++◌, refl, ap, subst, ◌∙◌, arith}
+use Rattle.std.proofs.Common.{◌≡◌, inl, ⊎_elim, ℕ, ◌/◌, ◌≤◌, true, Option, Some, None, IfSome, nat_eq, List, [], ◌++◌, refl, ap, subst, ◌∙◌, arith}
 use Rattle.std.proofs.lemmas.Bool.Decides.{nat_tests}
 use Rattle.run_devices.specs.trace_model.declared.Card.{Card}
 use Rattle.run_devices.specs.trace_model.declared.Card.TheVariants.{A, B}

@@ -1,5 +1,5 @@
 -- A second begins behind one with power: nothing of it is told, decided or kept yet.
-use Rattle.std.proofs.Common.{◌≡◌, ◌⊎◌, inl, inr, ⊎_elim, ℕ, ◌+◌, ◌-◌, ◌*◌, ◌/◌, ◌≤◌, true, false, Option, None, List, [], ◌∷◌, ◌++◌, Contains, length, refl, ap, sym, subst, ◌∙◌, arith, append-nil, length-append}
+use Rattle.std.proofs.Common.{◌≡◌, inl, inr, ⊎_elim, ℕ, ◌+◌, ◌-◌, ◌*◌, ◌/◌, ◌≤◌, true, false, Option, None, List, [], ◌∷◌, ◌++◌, Contains, length, refl, ap, sym, subst, ◌∙◌, arith, append-nil, length-append}
 use Rattle.run_devices.specs.trace_model.declared.Card.{Card}
 use Rattle.run_devices.specs.trace_model.Trace.{TraceSecond}
 use Rattle.run_devices.specs.log_model.declared.lines.Verdict.{Verdict}
@@ -15,7 +15,6 @@ use Rattle.run_devices.specs.device_rule.Rules.{Standing, In as IsInAt}
 use Rattle.run_devices.specs.card_slots.Kept.{Kept as SlotsKept, minute_ended}
 use Rattle.run_devices.specs.run_unit_course.Followed.{Lit}
 use Rattle.run_devices.specs.run_unit_course.Turn.{span_at}
-use Rattle.run_devices.specs.safety_model.Cards.{entered}
 use Rattle.run_devices.specs.safety_model.Safe.{Devices, card_of, breakdowns_of}
 use Rattle.run_devices.specs.run_crew.declared.cards.Accepted.{Accepted}
 use Rattle.run_devices.specs.run_crew.declared.cabin.Cabin.{Cabin}

@@ -17,7 +17,7 @@ use Rattle.run_devices.specs.trace_model.Trace.{TraceSecond}
 use Rattle.run_devices.specs.log_model.declared.lines.Mark.{Mark}
 use Rattle.run_devices.specs.log_model.declared.lines.Refused.{Refused}
 use Rattle.run_devices.specs.log_model.declared.lines.SlotFault.{SlotFault}
-use Rattle.run_devices.specs.log_model.declared.lines.SlotFault.TheVariants.{Moving, NoCard, Begun, NotFree, Full}
+use Rattle.run_devices.specs.log_model.declared.lines.SlotFault.TheVariants.{Moving, NoCard}
 use Rattle.run_devices.specs.log_model.declared.lines.Verdict.{Verdict}
 use Rattle.run_devices.specs.log_model.Log.{Phase, In, Keeping, is_accepting}
 use Rattle.run_devices.specs.log_model.Slots.{Slots, Sitting, in_slot, same_card, is_accepted, refusal}

@@ -1,5 +1,5 @@
 -- The session of a card that is leaving is closed, or the card fails in that.
-use Rattle.std.proofs.Common.{◌≡◌, ◌⊎◌, ⊎_elim, ℕ, ◌+◌, true, false, Option, Some, None, List, [], ◌∷◌, ◌++◌, Contains, map, refl, ap, sym, subst, ◌∙◌, arith}
+use Rattle.std.proofs.Common.{◌≡◌, ⊎_elim, ℕ, ◌+◌, true, false, Option, Some, None, List, [], ◌∷◌, ◌++◌, Contains, map, refl, ap, sym, subst, ◌∙◌, arith}
 use Rattle.minute_rules.specs.activity_codec.declared.values.Slot.{Slot}
 use Rattle.run_devices.specs.trace_model.declared.Card.{Card}
 use Rattle.run_devices.specs.trace_model.Trace.{TraceSecond}

@@ -1,5 +1,5 @@
 -- The record over seconds that are taken at once: without power, of an `off` line, and with power where nothing happens; and at the start.
-use Rattle.std.proofs.Common.{◌≡◌, ◌⊎◌, inl, inr, ⊎_elim, ℕ, zero, suc, ◌+◌, ◌-◌, ◌/◌, ◌%◌, ◌<◌, ◌≤◌, true, false, None, List, [], ◌∷◌, ◌++◌, Contains, length, map, refl, ap, sym, subst, ◌∙◌, arith, append_assoc}
+use Rattle.std.proofs.Common.{◌≡◌, inl, inr, ⊎_elim, ℕ, zero, suc, ◌+◌, ◌-◌, ◌/◌, ◌%◌, ◌<◌, ◌≤◌, true, false, None, List, [], ◌∷◌, ◌++◌, Contains, length, map, refl, ap, sym, subst, ◌∙◌, arith, append_assoc}
 use Rattle.std.specs.Prelude.{max}
 use Rattle.std.proofs.lemmas.List.{same_from_push}
 use Rattle.run_devices.specs.trace_model.declared.Card.{Card}
@@ -16,7 +16,7 @@ use Rattle.run_devices.specs.log_model.declared.lines.Refused.{Refused}
 use Rattle.run_devices.specs.log_model.Log.{RunLog}
 use Rattle.run_devices.specs.log_model.Slots.{Slots, is_accepted}
 use Rattle.run_devices.specs.log_model.Causes.{refusals_at, refusal_told}
-use Rattle.run_devices.specs.log_model.Course.{ToldSecond, Went, powerless, fresh, went, without_power, has_power}
+use Rattle.run_devices.specs.log_model.Course.{ToldSecond, Went, fresh, went, without_power, has_power}
 use Rattle.run_devices.specs.log_model.ByHand.{asked_of, is_stop}
 use Rattle.run_devices.specs.history_model.Growth.{as_span}
 use Rattle.run_devices.specs.history_model.Minutes.{HistoryMinute}

@@ -1,5 +1,5 @@
 -- What was found stays found as more was left; minutes that follow one another, and one more in the book.
-use Rattle.std.proofs.Common.{◌≡◌, ◌⊎◌, inl, inr, ⊎_elim, ℕ, suc, ◌+◌, List, [], ◌∷◌, ◌++◌, Contains, length, map, ap, ◌∙◌, arith}
+use Rattle.std.proofs.Common.{◌≡◌, inl, inr, ⊎_elim, ℕ, suc, ◌+◌, List, [], ◌∷◌, ◌++◌, Contains, length, map, ap, ◌∙◌, arith}
 use Rattle.run_devices.specs.trace_model.declared.Card.{Card}
 use Rattle.run_devices.specs.trace_model.Trace.{TraceSecond}
 use Rattle.minute_rules.specs.minute_model.declared.Minute.{Minute}

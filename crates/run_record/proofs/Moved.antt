@@ -1,5 +1,5 @@
 -- What tears at a moment leave of what begins and moves there; and who sits in a slot is not one that leaves it.
-use Rattle.std.proofs.Common.{◌≡◌, ℕ, zero, suc, ◌+◌, Bool, true, false, cond, Option, Some, None, List, [], ◌∷◌, ◌++◌, map, refl, ap, sym, ◌∙◌, append-nil, append_assoc}
+use Rattle.std.proofs.Common.{◌≡◌, ℕ, zero, suc, Bool, true, false, cond, Option, Some, None, List, [], ◌∷◌, ◌++◌, map, refl, ap, sym, ◌∙◌, append-nil, append_assoc}
 use Rattle.std.specs.Prelude.{option_map, slice_get, flat_map}
 use Rattle.std.specs.List.{list_any}
 use Rattle.minute_rules.specs.activity_codec.declared.values.Slot.{Slot}

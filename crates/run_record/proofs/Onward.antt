@@ -1,5 +1,5 @@
 -- A second goes on behind a step in which nothing was found and no minute was kept; or the unit failed in that step.
-use Rattle.std.proofs.Common.{◌≡◌, ◌⊎◌, inl, inr, ⊎_elim, ◌+◌, ◌-◌, ◌≤◌, None, List, [], ◌++◌, Contains, length, refl, ap, sym, subst, ◌∙◌, arith, Option}
+use Rattle.std.proofs.Common.{◌≡◌, inl, inr, ⊎_elim, ◌+◌, ◌≤◌, None, List, [], ◌++◌, Contains, length, refl, ap, sym, subst, ◌∙◌, arith, Option}
 use Rattle.run_devices.specs.trace_model.declared.Card.{Card}
 use Rattle.run_devices.specs.trace_model.Trace.{TraceSecond}
 use Rattle.run_devices.specs.run_model.declared.Device.TheVariants.{Unit as Recorder}

@@ -21,7 +21,6 @@ use Rattle.run_devices.specs.run_unit_course.Followed.{UnitPower, Lit, Due, Lost
 use Rattle.run_devices.specs.run_unit_course.Legs.{resumed}
 use Rattle.run_devices.specs.run_unit_course.Travelled.{MayShow}
 use Rattle.run_devices.specs.run_unit_course.Turn.{span_at}
-use Rattle.run_devices.specs.safety_model.Cards.{entered}
 use Rattle.run_devices.specs.safety_model.Safe.{Devices, breakdowns_of, entered_by}
 use Rattle.run_devices.specs.run_crew.Cards.{session_of}
 use Rattle.run_devices.specs.run_promise.Between.{RunLedger}

@@ -1,5 +1,5 @@
 -- Who sits in which slot, by the slots and by the log, as a card is put in, leaves or is torn out.
-use Rattle.std.proofs.Common.{◌≡◌, ◌⊎◌, inl, inr, ℕ, ◌+◌, ◌/◌, Bool, true, false, ◌||◌, Option, Some, None, IfSome, is_some, List, [], ◌++◌, refl, ap, sym, subst, ◌∙◌, append-nil}
+use Rattle.std.proofs.Common.{◌≡◌, ◌⊎◌, inl, inr, ℕ, ◌/◌, Bool, true, false, ◌||◌, Option, Some, None, IfSome, is_some, List, [], ◌++◌, refl, ap, sym, subst, ◌∙◌, append-nil}
 use Rattle.std.specs.Prelude.{if◌then◌else◌}
 use Rattle.std.specs.List.{list_any}
 use Rattle.minute_rules.specs.activity_codec.declared.values.Slot.{Slot}

@@ -1,12 +1,11 @@
 -- A call on the devices of which nothing is told: it went well, or the unit failed in it.
-use Rattle.std.proofs.Common.{ℕ, ◌-◌, List, refl, subst, arith}
+use Rattle.std.proofs.Common.{ℕ, List, refl, subst, arith}
 use Rattle.run_devices.specs.trace_model.declared.Card.{Card}
 use Rattle.run_devices.specs.trace_model.Trace.{TraceSecond}
 use Rattle.minute_rules.specs.minute_model.declared.Minute.{Minute}
 use Rattle.run_devices.specs.log_model.declared.lines.Mark.{Mark}
 use Rattle.run_devices.specs.log_model.Course.{Course, went}
 use Rattle.run_devices.specs.history_model.Minutes.{HistoryMinute}
-use Rattle.run_devices.specs.history_model.Book.{kept}
 use Rattle.run_devices.specs.safety_model.Safe.{Devices, card_of, breakdowns_of}
 use Rattle.run_devices.specs.run_promise.Found.{found_of}
 use Rattle.run_devices.specs.run_course.Kept.{HasDecided}

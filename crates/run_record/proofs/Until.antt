@@ -1,5 +1,5 @@
 -- Up to which minute a second has decided: none that is later than its own, all before that one behind a settling, and all but a few of them.
-use Rattle.std.proofs.Common.{◌≡◌, ℕ, ◌+◌, ◌-◌, ◌/◌, ◌≤◌, None, List, [], ◌∷◌, ◌++◌, length, ap, sym, subst, ◌∙◌, arith, length-append}
+use Rattle.std.proofs.Common.{◌≡◌, ℕ, ◌+◌, ◌/◌, ◌≤◌, None, List, [], ◌∷◌, ◌++◌, length, ap, sym, subst, ◌∙◌, arith, length-append}
 use Rattle.run_devices.specs.trace_model.Trace.{TraceSecond}
 use Rattle.minute_rules.specs.minute_model.declared.Rule.{Rule}
 use Rattle.minute_rules.specs.minute_model.declared.Rule.TheVariants.{Original, Amended}

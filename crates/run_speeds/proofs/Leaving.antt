@@ -1,7 +1,7 @@
 -- Calls that leave the ring of detailed speed.
-use Rattle.std.proofs.Common.{◌≡◌, ◌⊎◌, inl, inr, ⊎_elim, ℕ, ◌+◌, ◌≤◌, List, take, drop, refl, sym, ◌∙◌, ap, arith}
+use Rattle.std.proofs.Common.{◌≡◌, inl, inr, ⊎_elim, ℕ, ◌+◌, ◌≤◌, List, take, drop, refl, sym, ◌∙◌, ap, arith}
 use Rattle.std.proofs.lemmas.List.{drop-drop}
-use Rattle.tach_media.specs.card_layout.Images.{SameOutside, bytes_at}
+use Rattle.tach_media.specs.card_layout.Images.{SameOutside}
 use Rattle.tach_media.specs.Medium.{State, IsCoherent, LeavesOnly}
 use Rattle.speed_store.proofs.gated_ring.Elsewhere.{ring_outside}
 use Rattle.speed_store.specs.speed_model.Stored.{speed_ring}

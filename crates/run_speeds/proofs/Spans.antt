@@ -1,13 +1,13 @@
 -- The speeds of the power spans of a run, second by second: they hang on its power alone, and so do its blocks.
-use Rattle.std.proofs.Common.{◌≡◌, ◌∙◌, ℕ, ◌+◌, ◌%◌, ◌<◌, ◌≤◌, Bool, true, false, cond, not, ◌&&◌, ◌||◌, nat_eq, Option, Some, None, is_some, List, [], ◌∷◌, ◌++◌, length, map, fold, refl, sym, ap, subst, arith, append-nil, append_assoc}
-use Rattle.std.specs.Prelude.{flat_map, option_to_list}
+use Rattle.std.proofs.Common.{◌≡◌, ◌∙◌, ℕ, ◌+◌, ◌%◌, ◌<◌, ◌≤◌, Bool, true, false, cond, not, ◌&&◌, ◌||◌, nat_eq, is_some, List, [], ◌∷◌, ◌++◌, length, map, fold, refl, sym, ap, arith, append-nil, append_assoc}
+use Rattle.std.specs.Prelude.{flat_map}
 use Rattle.std.specs.List.{AllByRecursion}
 use Rattle.std.proofs.lemmas.Grind.{flat_map-append}
 use Rattle.std.proofs.lemmas.List.{map-append}
 use Rattle.speed_store.specs.trace_model.Trace.{TraceSecond}
 use Rattle.speed_store.specs.log_model.Log.{RunLog, cut_in}
 use Rattle.speed_store.specs.log_model.Course.{ToldSecond, Before, Went, has_power, second_told, before_next, went_on, went, not_begun}
-use Rattle.speed_store.specs.log_model.Spans.{go_on, spans_with, spans_of, AreInOrder}
+use Rattle.speed_store.specs.log_model.Spans.{go_on, spans_of, AreInOrder}
 use Rattle.speed_store.proofs.log_model.Growth.{went-more}
 use Rattle.speed_store.proofs.log_model.Spanning.{spans-more}
 use Rattle.speed_store.specs.event_model.Spans.{SpeedSecond}

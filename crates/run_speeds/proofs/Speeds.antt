@@ -1,12 +1,12 @@
 -- What a unit carries of the blocks of a run.
-use Rattle.std.proofs.Common.{◌≡◌, ◌⊎◌, inl, inr, ⊎_elim, ℕ, suc, ◌+◌, ◌<◌, ◌≤◌, Bool, true, false, cond, not, filter, Option, Some, None, IfSome, is_some, List, [], ◌∷◌, ◌++◌, length, map, refl, sym, ◌∙◌, ap, subst, arith, append-nil, append_assoc}
+use Rattle.std.proofs.Common.{◌≡◌, ◌⊎◌, inl, inr, ⊎_elim, ℕ, suc, ◌<◌, ◌≤◌, Bool, true, false, cond, not, filter, Some, IfSome, is_some, List, [], ◌∷◌, ◌++◌, length, refl, sym, ◌∙◌, ap, subst, arith, append-nil, append_assoc}
 use Rattle.std.specs.List.{AllByRecursion}
 use Rattle.tach_media.specs.Medium.{State, IsCoherent, LeavesOnly}
 use Rattle.tach_media.proofs.Runs.{at_image, told_too}
 use Rattle.speed_store.specs.gated_ring.Ring.{taken, with_head}
 use Rattle.speed_store.specs.gated_ring.Change.{IsAdding, IsAdded}
 use Rattle.speed_store.proofs.gated_ring.Elsewhere.{ring_elsewhere}
-use Rattle.speed_store.specs.note_model.Rings.{Stand, AreNoFewer, unsure_count}
+use Rattle.speed_store.specs.note_model.Rings.{AreNoFewer, unsure_count}
 use Rattle.speed_store.specs.run_rings.Carried.{RingKeeps}
 use Rattle.speed_store.proofs.run_rings.Carried.{carries-none, carries-more, carries-maybe, carries-same}
 use Rattle.speed_store.proofs.run_rings.Few.{RingStays, RingMayTake, ring-stays, ring-takes, ring-may, few-start, few-go, few-as, few-more, few-unsure}
@@ -15,7 +15,7 @@ use Rattle.speed_store.specs.speed_model.declared.block.Block.{Block}
 use Rattle.speed_store.specs.speed_model.Blocks.{block_bytes}
 use Rattle.speed_store.specs.speed_model.Stored.{speed_ring, HoldsNewest}
 use Rattle.speed_store.proofs.Held.{ring-shape, whole-head, newest-begins, newest-added}
-use Rattle.run_speeds.specs.Speeds.{IsBlock, HasSpeedRing, none_sure, CarriesBlocks, CarriesSome, AreSure, HasSpeeds, HasSameSpeeds, LeavesSpeeds}
+use Rattle.run_speeds.specs.Speeds.{IsBlock, HasSpeedRing, none_sure, CarriesBlocks, CarriesSome, HasSpeeds, HasSameSpeeds, LeavesSpeeds}
 
 all-front : (P : Block → Type 0) (xs ys : List Block) → AllByRecursion P (xs ++ ys) → AllByRecursion P xs
 all-front P [] ys all = tt

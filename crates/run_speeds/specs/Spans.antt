@@ -1,5 +1,5 @@
 -- The blocks of detailed speed of a run, by its seconds and its run log (Annex IB, section III.12; profile).
-use Rattle.std.specs.Prelude.{ℕ, ◌+◌, Bool, not, List, [], ◌∷◌, map, if◌then◌else◌}
+use Rattle.std.specs.Prelude.{◌+◌, Bool, not, List, [], ◌∷◌, map, if◌then◌else◌}
 use Rattle.speed_store.specs.trace_model.Trace.{TraceSecond}
 use Rattle.speed_store.specs.log_model.Log.{RunLog}
 use Rattle.speed_store.specs.log_model.Course.{ToldSecond, went}

@@ -1,5 +1,5 @@
 -- Worked rows, computed by the checker: minutes over midnight are two days, and a minute told twice begins another.
-use Rattle.std.proofs.Common.{◌≡◌, ℕ, List, [], ◌∷◌, map, refl}
+use Rattle.std.proofs.Common.{◌≡◌, ℕ, [], ◌∷◌, map, refl}
 use Rattle.view_model.specs.declared.Viewed.{Viewed}
 use Rattle.slot_bars.specs.DaysOf.{days_of}
 

@@ -1,9 +1,9 @@
 -- What a call of a medium in memory does to what it tells.
-use Rattle.std.proofs.Common.{◌≡◌, inl, inr, ⊎_elim, ℕ, ◌+◌, ◌<◌, ◌≤◌, List, [], ◌∷◌, length, Bool, true, false, Some, refl, sym, ap, subst, arith, length-append}
+use Rattle.std.proofs.Common.{◌≡◌, inl, inr, ⊎_elim, ℕ, ◌+◌, ◌≤◌, List, [], ◌∷◌, length, Bool, true, false, Some, refl, sym, ap, subst, arith, length-append}
 use Rattle.std.specs.Bool.{OnTrue, OnFalse}
 use Rattle.card_layout.specs.Fields.{IsBytes}
 use Rattle.tach_media.specs.Medium.{LeavesOnly, KeepsBroken, IsPartlyWritten, IsSettled, HoldsBytes}
-use Rattle.tach_media.specs.Log.{History, BrokenAsBegun, image_of, image_left, bytes_of, add}
+use Rattle.tach_media.specs.Log.{History, image_of, image_left, bytes_of, add}
 use Rattle.tach_media.specs.LogLaws.{left_partly, image_more, broken_more, might_more, might_keep, might_bytes, settled}
 use Rattle.tach_media.specs.MemMedium.{memory_state, AreCounted}
 use Rattle.tach_media.specs.declared.log.Entry.{Entry}

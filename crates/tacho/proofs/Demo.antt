@@ -1,5 +1,5 @@
 -- How `demo` ends, by what its calls answered.
-use Rattle.std.proofs.Common.{◌≡◌, ◌∙◌, ◌≤◌, ◌⊎◌, ℕ, inl, inr, ⊎_elim, refl, sym, subst, arith, true, false, Bool, List, [], ◌∷◌, ◌-◌, ◌*◌, length, Option, Some, None, length-append}
+use Rattle.std.proofs.Common.{◌≡◌, ◌∙◌, ◌≤◌, ℕ, inl, inr, ⊎_elim, refl, sym, subst, arith, true, false, Bool, List, [], ◌∷◌, ◌-◌, ◌*◌, length, Option, Some, None, length-append}
 use Rattle.std.specs.Prelude.{Result, Ok, Err, OnOk, IfErr, IfSome}
 use Rattle.std.specs.List.{flat_map}
 use Rattle.std.specs.Io.KnownBytes.{Appends, Keeps}

@@ -1,5 +1,5 @@
 -- A unit and a card that were made new: a run begins with their images alone.
-use Rattle.std.proofs.Common.{⊎_elim, ◌≡◌, ◌∙◌, ap, sym, refl, ℕ, ◌+◌, ◌<◌, ◌≤◌, true, List, [], ◌++◌, length, drop, is_some, Option, None, Some, option_map, arith, append-nil}
+use Rattle.std.proofs.Common.{⊎_elim, ◌≡◌, ◌∙◌, ap, sym, refl, ℕ, ◌+◌, ◌≤◌, true, List, [], ◌++◌, length, drop, is_some, Option, None, Some, option_map, arith, append-nil}
 use Rattle.std.proofs.lemmas.List.{drop_all}
 use Rattle.trace_model.specs.declared.Card.{Card}
 use Rattle.trace_model.specs.declared.Card.TheVariants.{A, B}

@@ -1,5 +1,5 @@
 -- What was recorded stands where the unit is only read behind the run.
-use Rattle.std.proofs.Common.{◌≡◌, ◌≤◌, ◌-◌, ◌+◌, true, All, length, filter, take, ℕ, List, inl, inr, ⊎_elim, ◌⊎◌, arith, Bool, refl, sym, ◌∙◌, subst}
+use Rattle.std.proofs.Common.{◌≡◌, ◌≤◌, ◌+◌, true, All, length, filter, take, ℕ, List, inl, inr, ⊎_elim, ◌⊎◌, arith, Bool, refl, sym, ◌∙◌, subst}
 use Rattle.trace_model.specs.declared.Card.{Card}
 use Rattle.trace_model.specs.declared.Card.TheVariants.{A, B}
 use Rattle.trace_model.specs.declared.Item.{Item}

@@ -5,7 +5,6 @@ use Rattle.tach_media.specs.Medium.{Rose}
 use Rattle.trace_text.specs.declared.lines_trace.TraceFault.{TraceFault}
 use Rattle.trace_text.specs.declared.lines_trace.TraceFault.TheVariants as trace
 use Rattle.trace_text.specs.declared.lines_trace.Form.{Form}
-use Rattle.trace_text.specs.declared.lines_trace.Trace.{Trace}
 use Rattle.trace_text.specs.Judged.{IsBadText, IsLongText, IsFailure, TraceIsRefused, TraceIsJudged}
 use Rattle.tacho.specs.declared.end.Fault.{Fault}
 use Rattle.tacho.specs.declared.end.Fault.TheVariants.{Done, BadTrace, TooLong, ReadFault, WriteFault, Memory}

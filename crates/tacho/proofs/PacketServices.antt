@@ -2,7 +2,7 @@
 use Rattle.std.proofs.Common.{◌≡◌, ◌≤◌, ℕ, Bool, List, Option, refl, subst}
 use Rattle.std.specs.Prelude.{Result, Ok, Err, Some, IfSome, OnOk, IfErr}
 use Rattle.std.specs.Io.KnownBytes.{IsAtEnd}
-use Rattle.tach_media.specs.Medium.{State, Rose}
+use Rattle.tach_media.specs.Medium.{Rose}
 use Rattle.unit_model.specs.Decoding.{first_bad_place}
 use Rattle.unit_minutes.specs.Reading.{ReadsIfAny}
 use Rattle.link_session.specs.declared.fault.ServeFault.{ServeFault}

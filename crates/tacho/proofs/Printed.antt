@@ -1,8 +1,8 @@
 -- What a text that was printed left in the sink, as each command tells of it.
-use Rattle.std.proofs.Common.{◌≡◌, ◌≤◌, ℕ, List, Option, Some, refl, sym, subst}
+use Rattle.std.proofs.Common.{◌≡◌, ◌≤◌, ℕ, List, Option, Some, sym, subst}
 use Rattle.std.specs.Prelude.{Result, Ok, Err, IfErr}
 use Rattle.tacho.specs.declared.end.Fault.{Fault}
-use Rattle.tacho.specs.declared.end.Fault.TheVariants.{BadTrace, TooLong, ReadFault, WriteFault}
+use Rattle.tacho.specs.declared.end.Fault.TheVariants.{WriteFault}
 use Rattle.tacho.specs.declared.forms.Reading.{Reading}
 use Rattle.trace_text.specs.declared.lines_trace.Form.{Form}
 use Rattle.trace_text.specs.Judged.{IsBadText, IsLongText}

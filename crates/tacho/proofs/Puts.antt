@@ -9,7 +9,7 @@ use Rattle.tacho.specs.declared.end.Fault.TheVariants.{Done, TooLong, ReadFault,
 use Rattle.tacho.specs.declared.forms.Reading.{Reading}
 use Rattle.tacho.specs.declared.forms.Reading.TheVariants.{View, ByHand, Match, MatchAll, Totals, Chart, Speeds, Show}
 use Rattle.tacho.specs.Read.{EndsPut, IsBad, IsReadingEnd, IsUnfinished, IsUnshown, IsWhole, MayStopWithin, Prints}
-use Rattle.tacho.specs.Show.{IsCutOff, PutsPieces}
+use Rattle.tacho.specs.Show.{PutsPieces}
 
 module _ (reading : Reading) (bytes : List ℕ) (held sunk : Option (List ℕ)) (same : Type 0) where
   pub put-printed : (r : Result (Unit {0}) Fault) → EndsPut reading bytes r held sunk same → OnOk r ((out : List ℕ) × Prints reading bytes out × Appends held sunk out)

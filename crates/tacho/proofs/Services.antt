@@ -12,7 +12,7 @@ use Rattle.link_session.specs.declared.fault.ServeFault.{ServeFault}
 use Rattle.link_session.specs.declared.fault.ServeFault.TheVariants as service
 use Rattle.link_session.specs.Served.{IsServed, IsCaused, has_failed}
 use Rattle.run_outcome.specs.declared.outcome.Outcome.{Outcome}
-use Rattle.tacho.specs.declared.end.Fault.TheVariants.{Done, Usage, TooLong, BadUnit, ReadFault, WriteFault, MediumFault}
+use Rattle.tacho.specs.declared.end.Fault.TheVariants.{Done, Usage, BadUnit, ReadFault, WriteFault, MediumFault}
 use Rattle.tacho.specs.declared.forms.Form.TheVariants.{Serve}
 use Rattle.tacho.specs.End.{ended_by, is_medium_fault}
 use Rattle.tacho.specs.Outside.{Outside, memory_of}

@@ -1,5 +1,5 @@
 -- How `state` ends, by what its calls answered.
-use Rattle.std.proofs.Common.{◌≡◌, ◌≤◌, refl, subst, ℕ, List, Some}
+use Rattle.std.proofs.Common.{◌≤◌, refl, subst, ℕ, List, Some}
 use Rattle.std.specs.Prelude.{Result}
 use Rattle.run_outcome.specs.declared.outcome.Outcome.{Outcome}
 use Rattle.state_text.specs.declared.line.Line.{Line}
@@ -14,7 +14,7 @@ use Rattle.tacho.specs.Help.{IsTextEnd, EndsText}
 use Rattle.tacho.specs.Outside.{Outside, SinkTold}
 use Rattle.tacho.specs.Outcomes.{IsEmpty}
 use Rattle.tacho.specs.Program.{Ends}
-use Rattle.tacho.specs.State.{IsStateEnd, PrintsState, AreTold, EndsState}
+use Rattle.tacho.specs.State.{IsStateEnd, PrintsState, AreTold}
 use Rattle.tacho.proofs.Demo.{keeps-same}
 
 -- a text was printed, or a front of it

@@ -1,5 +1,5 @@
 -- Entries of which each is there and chosen: those before a window's begin pass by without being read.
-use Rattle.std.proofs.Common.{◌≡◌, ◌∙◌, ℕ, zero, suc, ◌+◌, ◌-◌, ◌*◌, ◌≤◌, ◌<◌, List, [], ◌∷◌, ◌++◌, length, sym, ap, arith, append_assoc, length-append}
+use Rattle.std.proofs.Common.{◌≡◌, ◌∙◌, ℕ, ◌+◌, ◌-◌, ◌*◌, ◌≤◌, ◌<◌, List, [], ◌∷◌, ◌++◌, length, sym, ap, arith, append_assoc, length-append}
 use Rattle.std.specs.List.{range_with_len}
 use Rattle.card_layout.specs.Fields.{joined}
 use Rattle.gated_ring.specs.Ring.{order}

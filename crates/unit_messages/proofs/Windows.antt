@@ -1,5 +1,5 @@
 -- How a window changes as bytes pass by.
-use Rattle.std.proofs.Common.{◌≡◌, ◌⊎◌, ⊎_elim, Option, Some, IfSome, subst, ℕ, zero, suc, ◌+◌, ◌-◌, ◌*◌, ◌/◌, ◌≤◌, min, List, [], ◌∷◌, ◌++◌, length, take, drop, refl, sym, ◌∙◌, ap, append_assoc, length-append, arith}
+use Rattle.std.proofs.Common.{◌≡◌, ⊎_elim, Option, Some, IfSome, subst, ℕ, zero, suc, ◌+◌, ◌-◌, ◌*◌, ◌/◌, ◌≤◌, min, List, [], ◌∷◌, ◌++◌, length, take, drop, refl, sym, ◌∙◌, ap, append_assoc, length-append, arith}
 use Rattle.std.proofs.lemmas.List.{append-nil, length-take, length-drop, drop_all, take_all, take_min, drop_min, map-append}
 use Rattle.card_layout.specs.Images.{bytes_at, number_at}
 use Rattle.card_layout.specs.Fields.{joined, IsBytes}

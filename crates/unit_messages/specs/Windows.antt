@@ -1,5 +1,5 @@
 -- A window on a list of bytes that pass by, part after part: the bytes from a place on, at most 252.
-use Rattle.std.specs.Prelude.{◌≡◌, ◌⊎◌, min, ℕ, ◌+◌, ◌-◌, List, ◌++◌, length, take, drop}
+use Rattle.std.specs.Prelude.{◌≡◌, ◌⊎◌, min, ℕ, ◌-◌, List, ◌++◌, length, take, drop}
 use Rattle.link_model.specs.declared.lengths.TheConstants.{WHOLE_MOST}
 
 -- what a window sees: how many bytes are still to be passed over, and those that are held

@@ -1,5 +1,5 @@
 -- The moments of a `keep` that begins a day, and what it leaves.
-use Rattle.std.proofs.Common.{◌≡◌, ◌≢◌, ◌⊎◌, ⊎_elim, ℕ, ◌+◌, ◌*◌, ◌/◌, ◌%◌, ◌<◌, ◌≤◌, Bool, true, false, cond, List, [], ◌∷◌, ◌++◌, length, length-append, append_assoc, refl, sym, ◌∙◌, ap, subst, arith, lit≤, lit<, Some, IfSome}
+use Rattle.std.proofs.Common.{◌≡◌, ◌≢◌, ⊎_elim, ℕ, ◌+◌, ◌*◌, ◌/◌, ◌%◌, ◌<◌, ◌≤◌, Bool, true, false, cond, List, [], ◌∷◌, ◌++◌, length, length-append, append_assoc, refl, sym, ◌∙◌, ap, subst, arith, lit≤, lit<, Some, IfSome}
 use Rattle.std.specs.Prelude.{◌==◌, min}
 use Rattle.std.specs.Int.{to_be_bytes, w16, w32}
 use Rattle.card_layout.proofs.Numbers.{big_number-big_bytes}

@@ -14,7 +14,7 @@ use Rattle.gated_ring.proofs.Orders.{rest, rest_each, order_first, order_last, e
 use Rattle.unit_model.specs.declared.layout.TheConstants.{DAYS, DAY_SLOTS, DAY_SLOT_SIZE, DAY_WORDS, HIGHEST_ODOMETER, INSERTIONS, LAST_MINUTE, OVER_COUNT, PLACES, RULE_BYTE, SPEEDS}
 use Rattle.unit_model.specs.Days.{word_minute, day_of, Each}
 use Rattle.unit_model.specs.Image.{last_kept, odometer_at, day_ring, slot_place, indices, slot_date, slot_odometer, slot_count, slot_words}
-use Rattle.unit_model.specs.Decoding.{check, cell_place, slot_checks, slot_day, day_checks, has_day, is_last_good, are_dense, is_filled_on, indices_before, is_date_good, word_checks}
+use Rattle.unit_model.specs.Decoding.{cell_place, slot_checks, slot_day, day_checks, has_day, is_last_good, are_dense, is_filled_on, indices_before, is_date_good, word_checks}
 use Rattle.unit_model.specs.Writing.{behind_index}
 use Rattle.unit_model.proofs.Numbers.{number_before, number_after, number_in}
 use Rattle.unit_model.proofs.Slots.{day_at}

@@ -11,7 +11,7 @@ use Rattle.gated_ring.specs.Ring.{number_at, pointer, is_there, entry_at, next, 
 use Rattle.unit_model.specs.declared.layout.TheConstants.{DAYS, DAY_COUNT, DAY_SLOTS, DAY_SLOT_SIZE, DAY_WORDS, DAY_WORD_LIMIT, FIRST_OVER, HIGHEST_ODOMETER, IMAGE_SIZE, INSERTIONS, LAST_KEPT, LAST_MINUTE, ODOMETER, OVER_COUNT, PLACES, RULE_BYTE, SPEEDS}
 use Rattle.unit_model.specs.Days.{word_minute, Each}
 use Rattle.unit_model.specs.Image.{last_kept, odometer_at, day_ring, slot_place, indices, slot_date, slot_count, slot_words, words_at}
-use Rattle.unit_model.specs.Decoding.{check, cell_place, slot_checks, day_checks, has_day, is_pointer_good, is_last_good, are_dense, indices_before, is_date_good, word_checks, Decodes}
+use Rattle.unit_model.specs.Decoding.{cell_place, slot_checks, day_checks, has_day, is_pointer_good, is_last_good, are_dense, indices_before, is_date_good, word_checks, Decodes}
 use Rattle.unit_model.specs.Writing.{free_place, DiffersBehind, with_odometer}
 use Rattle.unit_model.proofs.Front.{front_odometer as front_odometer_is}
 use Rattle.unit_model.proofs.Numbers.{number_before, number_after, number_in, words_before, words_after, words_in}

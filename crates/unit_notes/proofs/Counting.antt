@@ -1,5 +1,5 @@
 -- An over speeding: its entry, then the begin of the first one, then their number.
-use Rattle.std.proofs.Common.{◌≡◌, ◌⊎◌, inl, inr, ⊎_elim, ℕ, ◌+◌, ◌<◌, ◌≤◌, Bool, cond, length, arith, Option, Some, None, IfSome, option_map, List, refl, sym, ◌∙◌, ap, subst}
+use Rattle.std.proofs.Common.{◌≡◌, inl, inr, ⊎_elim, ℕ, ◌+◌, ◌<◌, ◌≤◌, Bool, cond, length, arith, Option, Some, None, IfSome, option_map, List, refl, sym, ◌∙◌, ap, subst}
 use Rattle.std.specs.Int.{to_be_bytes, w32}
 use Rattle.std.proofs.lemmas.Bool.{eq-eqb, lt-ltb}
 use Rattle.card_layout.specs.Images.{number_at, put}

@@ -1,6 +1,5 @@
 -- What a note changes lies among the places of its type.
 use Rattle.std.proofs.Common.{◌≡◌, inl, inr, ⊎_elim, ℕ, false, ◌<◌, Option, Some, None, IfSome, List, [], ◌∷◌, refl, sym, subst, arith}
-use Rattle.std.specs.Prelude.{◌⊎◌}
 use Rattle.card_layout.specs.Images.{SameOutside}
 use Rattle.card_layout.proofs.Images.{outside_same, outside_wider}
 use Rattle.tach_media.specs.Medium.{State, Reads, StaysSettled}

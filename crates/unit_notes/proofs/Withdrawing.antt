@@ -1,5 +1,5 @@
 -- The rings of insertions and places inside the image.
-use Rattle.std.proofs.Common.{◌≡◌, ◌≢◌, ◌⊎◌, inl, inr, ℕ, ◌+◌, ◌-◌, ◌<◌, ◌≤◌, Option, Some, None, IfSome, is_some, List, sym, ◌∙◌, ap, subst, arith}
+use Rattle.std.proofs.Common.{◌≡◌, ◌≢◌, ◌⊎◌, inl, inr, ℕ, ◌+◌, ◌<◌, ◌≤◌, Option, Some, None, IfSome, is_some, List, sym, ◌∙◌, ap, subst, arith}
 use Rattle.card_layout.specs.Images.{put, number_at}
 use Rattle.card_layout.proofs.Images.{outside_then}
 use Rattle.tach_media.specs.Medium.{LiesInside}

@@ -75,8 +75,8 @@ pub record HasTwo (mine : List ℕ → Type 0) : Type 0 where
 abbrev pub IsOthers : (mine : List ℕ → Type 0) → (rows : List ℕ) → (r : ℕ) → Type 0
 IsOthers mine rows r = (session_in rows r ≢ 0) × (mine (number_in rows r) → ⊥)
 
--- FEW ARE LOST, with those that were empty no more than there are numbers of some: of three two are one, and where there
--- is one number alone two are one. And none of them had a later session than a row that another has still.
+-- FEW ARE LOST, with those that were empty no more than there are numbers of some: of three two are one, and where
+-- there is one number alone two are one. And none of them had a later session than a row that another has still.
 pub record LoseFew (mine : List ℕ → Type 0) (start rows : List ℕ) : Type 0 where
   pub three : (r s t : ℕ) → IsLost mine start rows r → IsGone mine start rows s → IsGone mine start rows t
       → (r ≡ s) ⊎ ((r ≡ t) ⊎ (s ≡ t))

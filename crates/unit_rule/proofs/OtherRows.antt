@@ -1,5 +1,5 @@
 -- The owed rows that go on for the numbers of two cards keep what they owe to others.
-use Rattle.std.proofs.Common.{◌≡◌, ◌⊎◌, inl, inr, ⊎_elim, ℕ, Option, Some, None, List, refl, ap, ◌∙◌}
+use Rattle.std.proofs.Common.{◌≡◌, inl, inr, ⊎_elim, ℕ, Option, Some, None, List, refl, ap, ◌∙◌}
 use Rattle.tach_media.specs.card_layout.declared.files.Fid.{Fid}
 use Rattle.unit_minutes.specs.unit_model.Image.{last_kept}
 use Rattle.unit_minutes.specs.unit_owed.Owed.{rows_in}

@@ -1,11 +1,10 @@
 -- Worked rows, computed by the checker: what is told of two blocks, the words of a line, and the last of three.
-use Rattle.std.proofs.Common.{◌≡◌, ℕ, List, [], ◌∷◌, ◌++◌, length, refl}
+use Rattle.std.proofs.Common.{◌≡◌, ℕ, [], ◌∷◌, ◌++◌, refl}
 use Rattle.std.specs.Prelude.{replicate, codes, Some, None}
 use Rattle.std.specs.Fmt.{digits}
 use Rattle.unit_speeds.specs.declared.line.SpeedLine.{SpeedLine}
 use Rattle.unit_speeds.specs.Speeds.{line_of}
 use Rattle.unit_speeds.specs.Text.{speed_words, last_lines}
-use Rattle.unit_speeds.proofs.Lines.{no_line}
 
 -- 12:00 on 2010-03-01: half a minute at 0, a second at 20, 29 at 0
 start : line_of (0x4B ∷ 0x8B ∷ 0xAC ∷ 0x40 ∷ (replicate 30 0 ++ 20 ∷ replicate 29 0)) ≡ record { time = 0x4B8BAC40; most = 20; mean = 0; moving = 1 }

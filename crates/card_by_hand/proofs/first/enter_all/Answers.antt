@@ -1,17 +1,14 @@
-use Rattle.std.proofs.Common.{rules, ◌≡◌, ◌∙◌, ℕ, ◌+◌, ◌*◌, ◌/◌, ◌<◌, ◌≤◌, Bool, true, false, List, take, drop, get_or, length, inl, refl, sym, ap, subst, arith}
+use Rattle.std.proofs.Common.{rules, ◌≡◌, ◌∙◌, ℕ, ◌+◌, ◌*◌, ◌/◌, ◌<◌, ◌≤◌, true, false, List, take, drop, get_or, length, inl, refl, sym, subst, arith}
 use Rattle.std.specs.Prelude.{is_err, nat_eq}
-use Rattle.std.proofs.lemmas.List.{drop_all, take_all}
+use Rattle.std.proofs.lemmas.List.{take_all}
 use Rattle.std.proofs.lemmas.Bool.{eqb-true, eqb-false}
 use Rattle.activity_codec.proofs.ByTest.{by_test}
 use Rattle.activity_codec.specs.declared.entries.Manual.{Manual}
-use Rattle.tach_media.proofs.Runs.{ok_gives}
 use Rattle.hand_model.specs.Holding.{LieBetween, AreOfDay}
 use Rattle.hand_model.proofs.OfDay.{none, spans}
-use Rattle.card_session.specs.Sessions.{Session}
 use Rattle.card_session.specs.Parts.{DoesPart}
-use Rattle.card_session.specs.ByHand.{EndsByHand}
 use Rattle.card_session.proofs.OnCard.{may_still}
-use Rattle.card_session.proofs.Composing.{part_as, part_failed}
+use Rattle.card_session.proofs.Composing.{part_failed}
 use Rattle.card_by_hand.specs.First.{HasEntered, MayBeEntering}
 use Rattle.card_by_hand.proofs.Chain.{rest_is, entries_then, entries_none, with_value, ends_on}
 use Rattle.card_by_hand.proofs.first.enter_all.Goals as goal

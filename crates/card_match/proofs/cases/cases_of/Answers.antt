@@ -1,4 +1,4 @@
-use Rattle.std.proofs.Common.{◌≡◌, ◌∙◌, List, ◌++◌, get_or, take, ap, sym}
+use Rattle.std.proofs.Common.{◌∙◌, List, ◌++◌, get_or, take, ap, sym}
 use Rattle.std.proofs.lemmas.List.{take_more}
 use Rattle.view_model.specs.declared.CardShown.{CardShown}
 use Rattle.view_model.specs.declared.Line.{Line}

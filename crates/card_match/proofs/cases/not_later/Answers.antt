@@ -1,5 +1,4 @@
-use Rattle.std.proofs.Common.{◌≡◌, false, leb, arith, rules}
-use Rattle.std.proofs.lemmas.Bool.Decides.{nat_tests}
+use Rattle.std.proofs.Common.{leb, rules}
 use Rattle.std.proofs.lemmas.List.Sorted.{IsPartitionPoint-from_clause, IsPartitionedBy-leb}
 use Rattle.card_match.specs.Cases.{minute_of_case}
 use Rattle.card_match.proofs.Telling.{later_by_test}

@@ -1,4 +1,4 @@
-use Rattle.std.proofs.Common.{◌≡◌, inl, inr, ap, sym, arith, get_or}
+use Rattle.std.proofs.Common.{inl, inr, arith, get_or}
 use Rattle.std.proofs.lemmas.List.{get_or_default}
 use Rattle.std.proofs.lemmas.List.Edits.{map_over_more}
 use Rattle.card_match.specs.declared.cases.Case.{Case}

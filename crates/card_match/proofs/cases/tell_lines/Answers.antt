@@ -1,6 +1,5 @@
-use Rattle.std.proofs.Common.{◌≡◌, ◌∙◌, ◌+◌, List, [], ◌∷◌, ◌++◌, get_or, take, map, ap, sym, subst, append_assoc}
+use Rattle.std.proofs.Common.{◌∙◌, ◌+◌, List, ◌++◌, get_or, take, map, ap, sym, subst, append_assoc}
 use Rattle.std.proofs.lemmas.List.{take_more}
-use Rattle.activity_codec.specs.declared.entries.Entry.{Entry}
 use Rattle.view_model.specs.declared.UnitShown.{UnitShown}
 use Rattle.view_model.specs.declared.Line.{Line}
 use Rattle.card_match.specs.declared.cases.Case.{Case}

@@ -1,6 +1,5 @@
-use Rattle.std.proofs.Common.{◌≡◌, ◌∙◌, ◌+◌, List, [], ◌∷◌, ◌++◌, get_or, take, map, ap, sym, subst, append_assoc}
+use Rattle.std.proofs.Common.{◌∙◌, ◌+◌, List, [], ◌∷◌, ◌++◌, get_or, take, map, ap, sym, subst, append_assoc}
 use Rattle.std.proofs.lemmas.List.{take_more}
-use Rattle.activity_codec.specs.declared.entries.Entry.{Entry}
 use Rattle.card_match.specs.declared.cases.Use.{Use}
 use Rattle.card_match.specs.declared.cases.Case.{Case}
 use Rattle.card_match.specs.Matching.{Against}

@@ -1,4 +1,4 @@
-use Rattle.std.proofs.Common.{◌≡◌, ◌∙◌, ◌+◌, ◌<◌, ℕ, sym, ap, take, length, get_or, List, [], ◌∷◌, ◌++◌, arith}
+use Rattle.std.proofs.Common.{◌<◌, take, length, get_or, arith}
 use Rattle.std.proofs.lemmas.List.{take_more}
 use Rattle.view_model.specs.declared.Line.{Line}
 use Rattle.tacho_types.specs.declared.calendar.TheConstants.{DAYS}

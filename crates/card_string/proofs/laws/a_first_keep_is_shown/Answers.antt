@@ -1,4 +1,4 @@
-use Rattle.std.proofs.Common.{◌≡◌, ⊎_elim, arith}
+use Rattle.std.proofs.Common.{⊎_elim, arith}
 use Rattle.card_by_hand.proofs.card_session.Stopping.{asked_at}
 use Rattle.card_by_hand.proofs.card_session.Marks.{mark_told}
 use Rattle.card_string.proofs.FirstShown.{first_shown, first_of_keep, keep_of_first}

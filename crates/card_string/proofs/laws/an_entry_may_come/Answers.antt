@@ -1,4 +1,4 @@
-use Rattle.std.proofs.Common.{List, ◌⊎◌, ap, subst}
+use Rattle.std.proofs.Common.{List, ◌⊎◌, subst}
 use Rattle.card_by_hand.specs.activity_codec.declared.entries.Entry.{Entry}
 use Rattle.card_by_hand.specs.card_session.Overwriting.{BeginsBehind}
 use Rattle.card_string.specs.Carried.{IsFresh}

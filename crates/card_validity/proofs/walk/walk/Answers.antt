@@ -1,4 +1,4 @@
-use Rattle.std.proofs.Common.{◌≡◌, ◌+◌, ◌-◌, false, None, [], ◌∷◌, ◌++◌, refl, sym, subst, arith, rules}
+use Rattle.std.proofs.Common.{◌≡◌, false, None, [], ◌∷◌, ◌++◌, refl, sym, subst, arith, rules}
 use Rattle.card_image.specs.card_model.Walk.{days_of}
 use Rattle.card_validity.specs.declared.behind.Behind.{Behind}
 use Rattle.card_validity.specs.declared.walk.Met.{Met}

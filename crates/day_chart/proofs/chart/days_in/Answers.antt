@@ -1,4 +1,4 @@
-use Rattle.std.proofs.Common.{◌≡◌, [], length, arith}
+use Rattle.std.proofs.Common.{length, arith}
 use Rattle.file_view.specs.Histories.{minutes_on}
 use Rattle.slot_bars.specs.DaysOf.{days_of}
 use Rattle.slot_bars.proofs.EachDay.{split_days, none_left}

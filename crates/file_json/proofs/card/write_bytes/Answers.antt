@@ -1,4 +1,4 @@
-use Rattle.std.proofs.Common.{◌++◌, subst, sym}
+use Rattle.std.proofs.Common.{subst, sym}
 use Rattle.std.specs.Prelude.{Option, OnOk, ℕ}
 use Rattle.json_fields.specs.Shown.{AddsMembers}
 use Rattle.file_json.specs.Cards.{bytes_then}

@@ -1,4 +1,4 @@
-use Rattle.std.proofs.Common.{◌≡◌, ◌≢◌, ◌∙◌, arith, refl, ap, sym, take, drop}
+use Rattle.std.proofs.Common.{◌≢◌, ◌∙◌, arith, refl, ap, sym, take, drop}
 use Rattle.json.specs.Json.{Items}
 use Rattle.file_json.specs.Days.{day_len, day_shown, days_from, items_behind, stands_at}
 use Rattle.file_json.proofs.Stringing.{none_from, one_passed, stopped, two_of}

@@ -1,4 +1,4 @@
-use Rattle.std.proofs.Common.{◌≡◌, ◌∙◌, ◌++◌, ◌-◌, ℕ, List, take, drop, sym, ap}
+use Rattle.std.proofs.Common.{◌≡◌, ◌∙◌, ◌++◌, ◌-◌, ℕ, take, drop, sym, ap}
 use Rattle.json.specs.Json.{array}
 use Rattle.json.specs.Tree.{items_tokens, json_tokens}
 use Rattle.file_json.specs.Days.{day_len, days_shown, is_day}

@@ -1,4 +1,4 @@
-use Rattle.std.proofs.Common.{◌≡◌, ◌++◌, length}
+use Rattle.std.proofs.Common.{◌≡◌, ◌++◌}
 use Rattle.json.specs.Json.{array}
 use Rattle.json.specs.Tree.{items_tokens, json_tokens}
 use Rattle.file_json.specs.Days.{days_shown}

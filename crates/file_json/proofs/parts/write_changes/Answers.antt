@@ -1,7 +1,6 @@
-use Rattle.std.proofs.Common.{◌≡◌, ◌≢◌, ◌∙◌, ◌++◌, ◌≤◌, ◌*◌, [], ◌∷◌, refl, sym, ap, arith, append_assoc, rules}
+use Rattle.std.proofs.Common.{◌∙◌, ◌++◌, rules}
 use Rattle.json.specs.Json.{array}
-use Rattle.json.specs.Token.{Token}
-use Rattle.json.specs.Tree.{items_tokens, json_tokens}
+use Rattle.json.specs.Tree.{json_tokens}
 use Rattle.file_json.specs.Parts.{changes_shown}
 use Rattle.file_json.proofs.Left.{one_change_more, no_change_left}
 use Rattle.file_json.proofs.parts.write_changes.Goals as goal

@@ -1,8 +1,8 @@
-use Rattle.std.proofs.Common.{◌≡◌, ◌∙◌, ℕ, ◌++◌, List, [], ◌∷◌, drop, refl, sym, ap, subst, arith, append_assoc}
+use Rattle.std.proofs.Common.{◌≡◌, ℕ, List, drop, sym, subst}
 use Rattle.std.specs.Prelude.{slice_index, codes}
 use Rattle.std.specs.Fmt.{decimal}
 use Rattle.json.specs.Json.{number, string}
-use Rattle.message_model.specs.Messages.{message_bytes, number_of, content_of}
+use Rattle.message_model.specs.Messages.{message_bytes}
 use Rattle.json_fields.specs.Shown.{AddsMembers}
 use Rattle.json_fields.proofs.Objects.{behind_is}
 use Rattle.file_json.specs.Parts.{HasParts, parts_then}

@@ -1,8 +1,8 @@
-use Rattle.std.proofs.Common.{◌≡◌, ◌∙◌, ◌≤◌, ℕ, ◌+◌, ◌-◌, true, false, List, [], length, take, drop, get_or, map, ap, sym, subst, arith}
+use Rattle.std.proofs.Common.{◌≡◌, ◌∙◌, ◌≤◌, ℕ, ◌-◌, List, length, take, drop, get_or, map, ap, sym, subst, arith}
 use Rattle.std.proofs.Math.Seq.{take-length}
 use Rattle.activity_codec.specs.declared.entries.Entry.{Entry}
 use Rattle.card_model.specs.Days.{Day}
-use Rattle.card_model.specs.Image.{StringShape, HoldsDays}
+use Rattle.card_model.specs.Image.{StringShape}
 use Rattle.card_model.specs.Walk.{days_of}
 use Rattle.card_image.specs.CardFile.{string_alone}
 use Rattle.card_retention.specs.Entries.{entries_up_to}

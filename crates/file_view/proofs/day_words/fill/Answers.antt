@@ -1,4 +1,4 @@
-use Rattle.std.proofs.Common.{◌⊎◌, inl, inr, ⊎_elim, ◌∙◌, Some, arith}
+use Rattle.std.proofs.Common.{inl, inr, ⊎_elim, ◌∙◌, Some, arith}
 use Rattle.file_view.proofs.Deciding.{fill_inside, fill_outside}
 use Rattle.file_view.proofs.day_words.fill.Goals as goal
 

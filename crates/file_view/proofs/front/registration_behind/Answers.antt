@@ -1,5 +1,5 @@
 use Rattle.std.proofs.Common.{◌∙◌, Some, List, [], ◌∷◌, ℕ, ap, sym, subst}
-use Rattle.message_model.specs.Messages.{Message, AnOverview}
+use Rattle.message_model.specs.Messages.{Message}
 use Rattle.unit_messages.specs.Reading.{BeginsWith}
 use Rattle.file_view.specs.Fronts.{registration_in}
 use Rattle.file_view.proofs.Leading.{new_comes}

@@ -1,14 +1,12 @@
-use Rattle.std.proofs.Common.{◌≡◌, ◌∙◌, ℕ, ◌+◌, ◌<◌, List, [], ◌++◌, length, take, get_or, ap, sym, subst, arith, append_assoc, append-nil}
+use Rattle.std.proofs.Common.{◌≡◌, ◌∙◌, ℕ, ◌+◌, ◌<◌, List, ◌++◌, length, take, get_or, ap, sym, subst, arith, append_assoc, append-nil}
 use Rattle.std.proofs.Math.Seq.{take-length}
 use Rattle.std.proofs.lemmas.List.{take_more}
 use Rattle.activity_codec.specs.Words.{word_minute}
-use Rattle.card_model.specs.Days.{Day}
 use Rattle.card_days.specs.declared.head.DayHead.{DayHead}
 use Rattle.activity_codec.specs.declared.entries.Manual.{Manual}
 use Rattle.hand_model.specs.ByHand.{words_by_hand}
 use Rattle.hand_model.proofs.Lists.{words_append}
 use Rattle.file_view.specs.ByHand.{hand_up_to}
-use Rattle.file_view.specs.Walking.{IsDayAt}
 use Rattle.file_view.proofs.Walks.{word_low}
 use Rattle.file_view.proofs.hands.add_words.Goals as goal
 

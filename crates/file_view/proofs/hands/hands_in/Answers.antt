@@ -1,4 +1,4 @@
-use Rattle.std.proofs.Common.{◌≡◌, ◌∙◌, ◌≤◌, ℕ, ◌+◌, ◌-◌, ◌<◌, List, [], ◌++◌, length, take, get_or, ap, sym, subst, arith}
+use Rattle.std.proofs.Common.{◌≡◌, ◌∙◌, ◌≤◌, ℕ, ◌-◌, ◌<◌, List, ◌++◌, length, take, get_or, ap, sym, subst, arith}
 use Rattle.std.proofs.Math.Seq.{take-length}
 use Rattle.std.proofs.lemmas.List.{take_more}
 use Rattle.card_model.specs.Days.{Day}
@@ -11,7 +11,6 @@ use Rattle.card_days.specs.Heads.{heads_of}
 use Rattle.activity_codec.specs.declared.entries.Manual.{Manual}
 use Rattle.hand_model.specs.ByHand.{words_by_hand, by_hand_up_to}
 use Rattle.hand_model.proofs.Lists.{up_to_append}
-use Rattle.file_view.specs.ByHand.{hands_told}
 use Rattle.file_view.specs.CardFiles.{mark_of}
 use Rattle.file_view.specs.Reading.{days_part, vehicles_part}
 use Rattle.file_view.specs.Walking.{IsDayAt}

@@ -1,7 +1,6 @@
 use Rattle.std.proofs.Common.{◌≡◌, ◌∙◌, ℕ, ◌+◌, ◌-◌, ◌*◌, List, [], ◌∷◌, ◌++◌, ap, sym, arith, append_assoc}
 use Rattle.std.specs.List.{range_with_len}
 use Rattle.tach_media.specs.Medium.{bytes_at}
-use Rattle.card_layout.specs.declared.files.Application.{Application}
 use Rattle.card_files.specs.declared.vehicle.Vehicle.{Vehicle}
 use Rattle.card_files.specs.Vehicles.{vehicle_of}
 use Rattle.file_view.specs.Vehicles.{vehicle_in}

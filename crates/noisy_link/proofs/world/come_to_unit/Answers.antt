@@ -1,4 +1,4 @@
-use Rattle.std.proofs.Common.{◌≡◌, ◌∙◌, ◌++◌, ℕ, List, length, Option, Some, IfSome, refl, sym, ap, subst, arith, append-nil}
+use Rattle.std.proofs.Common.{◌≡◌, ◌∙◌, ◌++◌, ℕ, length, Option, Some, IfSome, refl, sym, ap, subst, arith, append-nil}
 use Rattle.std.specs.Prelude.{◌==◌, ◌&&◌, not, is_none, false, option_to_list}
 use Rattle.std.proofs.lemmas.Option.{slice_get_read}
 use Rattle.unit_model.specs.Decoding.{first_bad_place}

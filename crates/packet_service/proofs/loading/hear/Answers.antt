@@ -1,4 +1,4 @@
-use Rattle.std.proofs.Common.{◌≡◌, ◌∙◌, Bool, Err, refl, sym, ap, subst}
+use Rattle.std.proofs.Common.{◌∙◌, Bool, Err, refl, sym, ap, subst}
 use Rattle.tach_media.specs.Medium.{Rose}
 use Rattle.link_loader.specs.declared.fault.LoadFault.TheVariants as load
 use Rattle.noisy_link.specs.Sides.{TakesPacket}

@@ -1,4 +1,4 @@
-use Rattle.std.proofs.Common.{◌≡◌, ◌∙◌, ℕ, ◌+◌, ◌-◌, ◌<◌, ◌≤◌, true, false, List, length, drop, refl, ap, sym, subst, arith, length-drop}
+use Rattle.std.proofs.Common.{◌≡◌, ◌∙◌, ℕ, ◌+◌, ◌-◌, ◌<◌, ◌≤◌, true, List, length, drop, refl, ap, sym, subst, arith, length-drop}
 use Rattle.trace_model.specs.declared.Action.{Action}
 use Rattle.device_calls.specs.safety_model.Safe.{Devices}
 use Rattle.run_minutes.specs.run_promise.Between.{devices}

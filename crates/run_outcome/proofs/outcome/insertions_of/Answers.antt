@@ -1,4 +1,4 @@
-use Rattle.std.proofs.Common.{true, false, Bool, ap, sym, ◌∙◌, arith}
+use Rattle.std.proofs.Common.{Bool, ap, sym, ◌∙◌, arith}
 use Rattle.std.specs.Prelude.{if◌then◌else◌, ℕ}
 use Rattle.run_outcome.proofs.Items.{insertions-here}
 use Rattle.run_outcome.proofs.outcome.insertions_of.Goals as goal

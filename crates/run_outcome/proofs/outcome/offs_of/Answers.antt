@@ -1,4 +1,4 @@
-use Rattle.std.proofs.Common.{true, false, Bool, ap, sym, ◌∙◌, arith}
+use Rattle.std.proofs.Common.{Bool, ap, sym, ◌∙◌, arith}
 use Rattle.std.specs.Prelude.{if◌then◌else◌, ℕ}
 use Rattle.run_outcome.proofs.Items.{offs-here}
 use Rattle.run_outcome.proofs.outcome.offs_of.Goals as goal

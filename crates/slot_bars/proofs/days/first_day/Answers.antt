@@ -1,6 +1,5 @@
-use Rattle.std.proofs.Common.{◌≡◌, ◌∙◌, ℕ, suc, ◌+◌, ◌-◌, ◌≤◌, List, ◌∷◌, true, false, length, take, drop, ap, sym, subst, arith}
+use Rattle.std.proofs.Common.{◌≡◌, ◌∙◌, ℕ, suc, ◌+◌, ◌-◌, ◌≤◌, ◌∷◌, true, false, length, take, drop, ap, sym, subst, arith}
 use Rattle.std.proofs.lemmas.List.{length-take-le}
-use Rattle.view_model.specs.declared.Line.{Line}
 use Rattle.file_view.specs.Histories.{minutes_on}
 use Rattle.slot_bars.specs.DaysOf.{days_of}
 use Rattle.slot_bars.specs.DayLines.{day_lines, is_behind_at}

@@ -1,4 +1,4 @@
-use Rattle.std.proofs.Common.{◌≡◌, ◌∙◌, ℕ, ◌+◌, ◌-◌, ◌<◌, length, get_or, ap, sym, arith}
+use Rattle.std.proofs.Common.{◌≡◌, ◌∙◌, ℕ, ◌+◌, ◌-◌, ◌<◌, length, get_or, ap, arith}
 use Rattle.view_model.specs.declared.Line.{Line}
 use Rattle.slot_bars.specs.DayLines.{is_behind}
 use Rattle.slot_bars.proofs.DayRuns.{looked_behind, none_behind}

@@ -1,4 +1,4 @@
-use Rattle.std.proofs.Common.{◌≡◌, ◌∙◌, IfSome, ap}
+use Rattle.std.proofs.Common.{◌≡◌, ◌∙◌, ap}
 use Rattle.tach_media.proofs.Runs.{from_told}
 use Rattle.gated_ring.specs.Ring.{pointer}
 use Rattle.speed_model.specs.Stored.{speed_ring}

@@ -1,6 +1,6 @@
 use Rattle.std.proofs.Common.{sym, subst, ◌∙◌}
 use Rattle.run_outcome.proofs.Items.{left-here}
-use Rattle.tacho.specs.Alone.{needs_no_card, IsForUnit}
+use Rattle.tacho.specs.Alone.{IsForUnit}
 use Rattle.tacho.proofs.alone.is_for_unit.Goals as goal
 
 pub loop-i-preserved : goal.loop-i-preserved

@@ -1,6 +1,6 @@
 use Rattle.std.proofs.lemmas.Grind.{common_steps}
-use Rattle.std.proofs.Common.{◌≡◌, ◌∙◌, ℕ, Bool, false, refl, sym, subst, arith, rules}
-use Rattle.std.specs.Prelude.{is_err, ◌<◌}
+use Rattle.std.proofs.Common.{◌≡◌, ◌∙◌, Bool, false, refl, sym, subst, arith, rules}
+use Rattle.std.specs.Prelude.{is_err}
 use Rattle.tach_media.specs.Medium.{HasCause}
 use Rattle.tach_media.proofs.Runs.{ok_gives}
 use Rattle.run_promise.specs.Between.{devices}

@@ -2,7 +2,7 @@ use Rattle.std.proofs.lemmas.Result.{err_from_is_err_and}
 use Rattle.std.proofs.Common.{ap, subst, sym, arith, refl, inl, inr, Err}
 use Rattle.tacho.specs.Outcomes.{IsEmpty}
 use Rattle.trace_text.specs.declared.lines_trace.Form.TheVariants.{Whole}
-use Rattle.tacho.proofs.EndLaws.{refusal-read, refusal-unwritten, unread-judges}
+use Rattle.tacho.proofs.EndLaws.{unread-judges}
 use Rattle.tacho.proofs.Recordings.{reserved-empty, run-refusal, ends-unread, ends-short, ends-refused, ends-run}
 use Rattle.tacho.proofs.UnitRuns.{refused-on-unit, unit-refused, unit-causes, unit-run}
 use Rattle.tacho.proofs.CardRuns.{refused-when, refused-causes, cards-refused, cards-run}

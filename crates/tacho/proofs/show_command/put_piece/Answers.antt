@@ -1,5 +1,5 @@
 use Rattle.std.proofs.lemmas.Result.{err_from_is_err_and}
-use Rattle.std.proofs.Common.{◌≡◌, ◌∙◌, ℕ, List, subst}
+use Rattle.std.proofs.Common.{◌∙◌, ℕ, List, subst}
 use Rattle.std.proofs.KnownBytes.{Appends-nil}
 use Rattle.tacho.specs.Outside.{SinkTold}
 use Rattle.tacho.specs.Show.{PutsPieces}

@@ -1,4 +1,4 @@
-use Rattle.std.proofs.Common.{◌∙◌, ◌-◌, ◌++◌, ℕ, List, map, drop, length, ap, arith, length-drop}
+use Rattle.std.proofs.Common.{◌∙◌, ◌++◌, ℕ, List, map, drop, length, ap, arith, length-drop}
 use Rattle.view_model.specs.declared.marks.Mark.{Mark}
 use Rattle.unit_marks.specs.declared.entries.Kind.TheVariants.{Event, Fault}
 use Rattle.unit_marks.specs.Entries.{mark_of}

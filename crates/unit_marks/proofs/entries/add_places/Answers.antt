@@ -1,4 +1,4 @@
-use Rattle.std.proofs.Common.{◌∙◌, ◌-◌, ℕ, length, arith, length-drop}
+use Rattle.std.proofs.Common.{arith, length-drop}
 use Rattle.message_model.specs.Messages.{word_bytes}
 use Rattle.unit_marks.proofs.Fronts.{moved, at_front, day_fronts}
 use Rattle.unit_marks.proofs.entries.add_places.Goals as goal

@@ -1,4 +1,4 @@
-use Rattle.std.proofs.Common.{◌≡◌, ◌∙◌, ℕ, ◌+◌, ◌*◌, List, drop, length, ap, arith}
+use Rattle.std.proofs.Common.{◌∙◌, ℕ, ◌+◌, ◌*◌, drop, ap, arith}
 use Rattle.unit_marks.proofs.Fronts.{at_front, times_few}
 use Rattle.unit_marks.proofs.entries.behind_many.Goals as goal
 

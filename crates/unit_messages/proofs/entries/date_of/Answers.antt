@@ -1,4 +1,4 @@
-use Rattle.std.proofs.Common.{◌∙◌, ℕ, ◌*◌, ◌/◌, sym, ap}
+use Rattle.std.proofs.Common.{◌∙◌, ◌*◌, ◌/◌, sym, ap}
 use Rattle.message_model.specs.Sending.{is_in_day}
 use Rattle.unit_messages.proofs.Dating.{eq_turned}
 use Rattle.unit_messages.proofs.entries.date_of.Goals as goal

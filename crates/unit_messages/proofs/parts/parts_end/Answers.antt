@@ -2,7 +2,7 @@ use Rattle.std.proofs.Common.{◌≡◌, ℕ, ◌+◌, ◌<◌, length, get_or, 
 use Rattle.std.specs.Prelude.{option_and_then}
 use Rattle.std.proofs.lemmas.List.{drop_more, drop_all}
 use Rattle.unit_messages.specs.declared.parts.Part.{Part}
-use Rattle.unit_messages.specs.Parts.{part_end, parts_end, most_of}
+use Rattle.unit_messages.specs.Parts.{parts_end, most_of}
 use Rattle.unit_messages.proofs.parts.parts_end.Goals as goal
 
 -- the parts from an index on, by the one that stands there

@@ -1,7 +1,7 @@
 use Rattle.std.proofs.lemmas.Grind.{common_steps}
 use Rattle.std.proofs.Common.{◌≡◌, length, ◌∙◌, ap, arith, rules}
 use Rattle.card_layout.specs.Fields.{total_width}
-use Rattle.note_model.specs.Tables.{table_of, widths_of}
+use Rattle.note_model.specs.Tables.{widths_of}
 use Rattle.unit_notes.proofs.Types.{entry_wide, ring_fits, ring_index, ring_gate, ring_width, entry_place_writable, ring_opens}
 use Rattle.unit_notes.proofs.noting.put_entry.Goals as goal
 

@@ -1,4 +1,4 @@
-use Rattle.std.proofs.Common.{◌<◌, ◌-◌, ◌*◌, ℕ, Option, IfSome, sym, ◌∙◌, ap, subst, refl, arith}
+use Rattle.std.proofs.Common.{◌<◌, ◌*◌, ℕ, Option, IfSome, sym, ◌∙◌, ap, subst, refl, arith}
 use Rattle.event_model.specs.Kinds.{places_of}
 use Rattle.note_model.specs.Tables as side
 use Rattle.note_model.specs.Tables.{similar_field}

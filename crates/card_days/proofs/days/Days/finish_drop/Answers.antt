@@ -1,5 +1,4 @@
-use Rattle.std.proofs.lemmas.Grind.{common_steps}
-use Rattle.std.proofs.Common.{◌≡◌, inl, ℕ, List, arith, sym, ap, subst, rules}
+use Rattle.std.proofs.Common.{◌≡◌, inl, ℕ, List, arith, sym, ap, subst}
 use Rattle.tach_media.proofs.Runs.{weaken, where_told, turned_into, on_ok}
 use Rattle.tach_media.specs.Plan.{put_all}
 use Rattle.card_model.specs.Days.{Day}

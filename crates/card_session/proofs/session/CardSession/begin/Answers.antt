@@ -1,4 +1,4 @@
-use Rattle.std.proofs.Common.{true, false, [], ◌∷◌, refl, sym, ap, subst}
+use Rattle.std.proofs.Common.{[], ◌∷◌, refl, sym, ap, subst}
 use Rattle.std.specs.Prelude.{is_err}
 use Rattle.tach_media.proofs.Runs.{ok_gives}
 use Rattle.card_layout.specs.declared.files.Application.{Application}

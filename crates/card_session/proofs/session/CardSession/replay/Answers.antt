@@ -1,4 +1,4 @@
-use Rattle.std.proofs.Common.{rules, ◌≡◌, ◌+◌, true, false, take, drop, refl, ◌∙◌, arith}
+use Rattle.std.proofs.Common.{rules, ◌≡◌, ◌+◌, true, take, drop, refl, ◌∙◌, arith}
 use Rattle.std.specs.Prelude.{is_err}
 use Rattle.std.proofs.lemmas.List.{take_all}
 use Rattle.card_session.proofs.OnCard.{may_still}

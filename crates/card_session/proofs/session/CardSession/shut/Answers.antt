@@ -1,4 +1,4 @@
-use Rattle.std.proofs.Common.{rules, inl, inr, ⊎_elim, ◌≡◌, ◌+◌, ◌*◌, ℕ, true, false, List, Option, None, sym, ◌∙◌, ap, subst, arith}
+use Rattle.std.proofs.Common.{rules, inl, inr, ⊎_elim, ◌≡◌, ◌+◌, ◌*◌, ℕ, true, List, Option, None, sym, ◌∙◌, ap, subst, arith}
 use Rattle.std.specs.Prelude.{is_err, IfNone, ◌⊎◌}
 use Rattle.card_files.specs.declared.vehicle.Vehicle.{Vehicle}
 use Rattle.activity_codec.specs.declared.values.Activity.TheVariants.{Rest}

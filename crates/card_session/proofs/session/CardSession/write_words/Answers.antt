@@ -1,4 +1,4 @@
-use Rattle.std.proofs.Common.{◌≡◌, ℕ, true, false, List, sym, ◌∙◌, ap, subst}
+use Rattle.std.proofs.Common.{◌≡◌, ℕ, List, sym, ◌∙◌, ap, subst}
 use Rattle.card_days.specs.card_model.Days.{Day}
 use Rattle.card_days.specs.Held.{Held, Knows, tail_in, tail_of}
 use Rattle.card_session.specs.Sessions.{Session, IsValue}

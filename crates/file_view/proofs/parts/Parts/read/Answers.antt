@@ -1,4 +1,4 @@
-use Rattle.std.proofs.Common.{◌≡◌, ◌∙◌, ◌+◌, ◌∷◌, ◌++◌, [], true, false, None, refl, sym, subst, arith}
+use Rattle.std.proofs.Common.{◌≡◌, ◌∙◌, ◌∷◌, ◌++◌, [], true, false, None, refl, sym, subst, arith}
 use Rattle.std.specs.Prelude.{Bool}
 use Rattle.std.specs.Bool.{OnTrue}
 use Rattle.file_view.specs.CardFiles.{may_follow}

@@ -1,13 +1,13 @@
 use Rattle.std.proofs.lemmas.Grind.{common_steps}
-use Rattle.std.proofs.Common.{◌≡◌, ◌∙◌, ℕ, ◌+◌, ◌<◌, ◌≤◌, Bool, false, true, not, Option, Some, IfSome, List, length, refl, sym, ap, arith, rules}
+use Rattle.std.proofs.Common.{◌≡◌, ◌∙◌, ℕ, ◌+◌, ◌≤◌, false, true, not, Some, IfSome, List, length, refl, sym, ap, arith, rules}
 use Rattle.std.specs.Prelude.{◌==◌}
 use Rattle.tach_media.specs.Medium.{State}
 use Rattle.tach_media.specs.Plan.{put_all}
 use Rattle.tach_media.proofs.Runs.{at_image, if_told, told_too, where_told, turned_into, settled_now, alters_failed, cause_after, from_reads}
 use Rattle.std.specs.Prelude.{is_err}
 use Rattle.gated_ring.specs.declared.room.Room.{Room}
-use Rattle.gated_ring.specs.Ring.{Shape, PointsInside, IsAtPointer, pointer, is_there, gate_of, number_at, next, taken, size_of}
-use Rattle.gated_ring.specs.Change.{IsAdded, adding_writes}
+use Rattle.gated_ring.specs.Ring.{Shape, PointsInside, IsAtPointer, pointer, is_there, gate_of, number_at, taken, size_of}
+use Rattle.gated_ring.specs.Change.{IsAdded}
 use Rattle.gated_ring.specs.Plans.{placing_pieces}
 use Rattle.gated_ring.proofs.Behind.{behind-points, behind-taken, behind-at}
 use Rattle.gated_ring.proofs.Planned.{placing_some, add_writes, add_moments, add_end}

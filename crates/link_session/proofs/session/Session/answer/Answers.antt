@@ -6,7 +6,7 @@ use Rattle.link_model.specs.Answers.{answered}
 use Rattle.link_frames.specs.Seen.{meant}
 use Rattle.message_model.specs.Sending.{content_sent}
 use Rattle.link_frames.specs.Asking.{asks_unit}
-use Rattle.link_frames.specs.Steps.{performed, asks}
+use Rattle.link_frames.specs.Steps.{asks}
 use Rattle.link_session.specs.Told.{SessionView, is_judged}
 use Rattle.link_session.proofs.Knowing.{as_found}
 use Rattle.link_session.proofs.AnswerFaults.{passed, passed_reads}

@@ -4,7 +4,7 @@ use Rattle.std.specs.Prelude.{is_some}
 use Rattle.unit_minutes.specs.declared.notes.Notes.{Notes}
 use Rattle.link_session.specs.Told.{SessionView, is_judged}
 use Rattle.link_session.proofs.Knowing.{decodes_of, right_of, outlines_of, other_outline, as_found}
-use Rattle.link_session.proofs.AnswerFaults.{failed_bad, failed_reads, bad_anew}
+use Rattle.link_session.proofs.AnswerFaults.{failed_bad, failed_reads}
 use Rattle.link_session.proofs.session.Session.ask.Goals as goal
 
 pub ask_first-requires-clause-anew : goal.ask_first-requires-clause-anew

@@ -1,5 +1,5 @@
 use Rattle.std.proofs.lemmas.Grind.{common_steps}
-use Rattle.std.proofs.Common.{◌-◌, ◌≤◌, List, ℕ, length, subst, sym, rules, arith}
+use Rattle.std.proofs.Common.{◌≤◌, List, ℕ, length, subst, sym, rules, arith}
 use Rattle.unit_memory.proofs.Told.{one_told}
 use Rattle.message_model.specs.Sending.{content_sent}
 use Rattle.link_frames.specs.Sending.{IsPart}

@@ -1,4 +1,4 @@
-use Rattle.std.proofs.Common.{◌≡◌, ◌∙◌, ℕ, List, Err, refl, sym, ap, arith}
+use Rattle.std.proofs.Common.{◌∙◌, Err, sym, ap, arith}
 use Rattle.unit_minutes.proofs.IfAny.{read_same}
 use Rattle.unit_memory.proofs.Told.{carried}
 use Rattle.unit_messages.proofs.Calls.{any_then}

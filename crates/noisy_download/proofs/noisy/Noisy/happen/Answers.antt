@@ -1,4 +1,4 @@
-use Rattle.std.proofs.Common.{◌∙◌, refl, sym}
+use Rattle.std.proofs.Common.{◌∙◌, sym}
 use Rattle.noisy_download.proofs.Happening.{happened, unlisted, knows_at}
 use Rattle.noisy_download.proofs.noisy.Noisy.happen.Goals as goal
 

@@ -1,6 +1,5 @@
-use Rattle.std.proofs.Common.{◌∙◌, ◌+◌, ◌<◌, ◌≤◌, ◌++◌, ◌∷◌, [], ℕ, List, Option, length, get_or, take, Ok, Err, sym, ap, subst, append-nil, arith}
+use Rattle.std.proofs.Common.{◌∙◌, ◌<◌, ◌≤◌, ◌++◌, ℕ, List, length, get_or, take, Ok, Err, sym, subst, append-nil, arith}
 use Rattle.std.proofs.lemmas.List.{take_all}
-use Rattle.tach_media.specs.Medium.{Rose}
 use Rattle.unit_minutes.proofs.IfAny.{read_same}
 use Rattle.unit_memory.proofs.Told.{carried}
 use Rattle.unit_messages.proofs.Calls.{no_call, any_then}

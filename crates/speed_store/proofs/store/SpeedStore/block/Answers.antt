@@ -1,4 +1,4 @@
-use Rattle.std.proofs.Common.{◌≡◌, ◌<◌, IfSome, List, Option, ℕ, length, get_or, refl, subst, arith}
+use Rattle.std.proofs.Common.{◌<◌, IfSome, List, Option, ℕ, length, get_or, refl, subst, arith}
 use Rattle.tach_media.proofs.Runs.{both_told, reads_then}
 use Rattle.gated_ring.specs.Ring.{indices}
 use Rattle.speed_model.specs.Stored.{speed_ring}

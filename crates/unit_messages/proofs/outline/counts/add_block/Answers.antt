@@ -1,4 +1,4 @@
-use Rattle.std.proofs.Common.{◌≡◌, ◌∙◌, ◌+◌, ◌*◌, ◌≤◌, ℕ, List, cond, get_or, sym, ap, subst, arith}
+use Rattle.std.proofs.Common.{◌≡◌, ◌∙◌, ◌+◌, ◌*◌, ℕ, List, cond, get_or, sym, ap, subst, arith}
 use Rattle.std.specs.List.{range_with_len}
 use Rattle.gated_ring.specs.Ring.{Shape, entry_at}
 use Rattle.unit_messages.specs.Chosen.{shape_of, is_meant}

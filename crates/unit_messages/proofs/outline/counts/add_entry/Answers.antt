@@ -1,4 +1,4 @@
-use Rattle.std.proofs.Common.{◌≡◌, ◌∙◌, ℕ, ◌+◌, ◌*◌, Bool, true, false, cond, List, length, get_or, not, sym, ap, arith}
+use Rattle.std.proofs.Common.{◌≡◌, ◌∙◌, ℕ, ◌+◌, ◌*◌, Bool, true, false, cond, get_or, not, sym, ap, arith}
 use Rattle.std.specs.Prelude.{◌==◌}
 use Rattle.card_layout.specs.Images.{number_at}
 use Rattle.unit_messages.specs.Chosen.{is_meant}

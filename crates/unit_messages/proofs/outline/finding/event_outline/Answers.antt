@@ -1,4 +1,4 @@
-use Rattle.std.proofs.Common.{◌∙◌, ap, refl, inr, min, arith, rules}
+use Rattle.std.proofs.Common.{◌∙◌, ap, refl, inr, arith, rules}
 use Rattle.std.specs.Prelude.{is_err}
 use Rattle.unit_model.specs.declared.layout.TheConstants.{EVENTS, OVERS, FAULTS}
 use Rattle.unit_memory.proofs.Told.{told_all}

@@ -1,4 +1,4 @@
-use Rattle.std.proofs.Common.{◌≡◌, None, IfSome, sym, subst}
+use Rattle.std.proofs.Common.{◌≡◌, IfSome, sym, subst}
 use Rattle.std.specs.Prelude.{IfOk}
 use Rattle.link_model.specs.declared.request.Request.{Request}
 use Rattle.unit_memory.proofs.Told.{told_all}

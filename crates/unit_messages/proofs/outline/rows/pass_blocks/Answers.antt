@@ -1,4 +1,4 @@
-use Rattle.std.proofs.Common.{◌≡◌, ◌∙◌, sym, ap, subst, length, ℕ, List}
+use Rattle.std.proofs.Common.{◌∙◌, sym, ap, length, ℕ, List}
 use Rattle.unit_model.specs.declared.layout.TheConstants.{SPEEDS}
 use Rattle.unit_memory.proofs.Told.{told_all}
 use Rattle.message_model.specs.Messages.{counted}
