@@ -138,7 +138,8 @@ pub record EndsTrace (unit card_a card_b : List ℕ) (start : ℕ) (items : List
   pub places : ShowTheirPlaces (recording_of unit card_a card_b start items out) now
   -- and its events of the run
   pub cards : ShowTheirEvents (recording_of unit card_a card_b start items out) began now
-  -- where the ring of detailed speed was dense, every image of the unit carries the blocks of the run
+  -- where the pointer of its ring of detailed speed was an index, as in a unit that decodes, every image of the unit
+  -- carries the blocks of the run
   pub speeds : CarriesItsSpeeds (recording_of unit card_a card_b start items out) began now
   -- with whatever a stop might have left a run may begin again
   pub again : BeginsAgain began now
