@@ -117,7 +117,7 @@ module _ (o : Origin) (done : List TraceSecond) (old : Run) (before : Outcome) (
     spans-cut = ap (speed_spans cut_log) t.are ∙ last-same log cut_log t.before last front-same ∙ ap (speed_spans log) (sym t.are)
 
   had : (supply : UnitPower) → Supplies Lit supply → IsLastOf supply done old.begun → HadActions done old.begun
-  had (IsLit []) powers last = absurd powers
+  had (IsLit []) powers _ = absurd powers
   had (IsLit (t ∷ span)) powers last = last
   had IsDue powers last = absurd powers
   had IsLost powers last = absurd powers

@@ -495,7 +495,7 @@ module _ (o : Origin) (done : List TraceSecond) (s : TraceSecond) (b : Beginning
 -- the unit failed in it, and the cut is told
 pub cut-ringed : (o : Origin) (done : List TraceSecond) (s : TraceSecond) (mid new : Run) (out after : Outcome) (d : Devices) (began : RunLog) (spans : List SpanFrom) → RingsWoken true began o done s spans mid (log_of out) d → CutEvented o done s new after d → new ≡ cut_run mid.next mid →
     after ≡ record out { breaks = with_lines (cut_line mid.next true 0 ∷ []) out.breaks } → s.number ≡ mid.next → (n : ℕ) → InSecondRinged o done s n new after d
-cut-ringed o done s mid new out after d began spans fails cut is told number n =
+cut-ringed o done s mid new out after d _ spans fails cut is told number n =
     let log : and_break (log_of out) (cut_at s.number true 0) ≡ log_of after = ap (λ (u : ℕ). and_break (log_of out) (cut_at u true 0)) number ∙ sym (ap log_of told) in
     let next : suc s.number ≡ suc new.next = ap suc (number ∙ sym (ap (λ (r : Run). r.next) is)) in
     let all : CutRinged o done s new after d = record {
@@ -510,7 +510,7 @@ cut-ringed o done s mid new out after d began spans fails cut is told number n =
 
 -- or the second goes on
 pub lit-woken : (o : Origin) (done : List TraceSecond) (s : TraceSecond) (run : Run) (out : Outcome) (d : Devices) (began : RunLog) (spans : List SpanFrom) → EventsWoken false began o done s run out d → RingsWoken false began o done s spans run (log_of out) d → InSecondRinged o done s 0 run out d
-lit-woken o done s run out d began spans woken rungs =
+lit-woken o done s run out d _ spans woken rungs =
     let all : WithinRinged o done s 0 run out d = record {
       evented = woken.0;
       front = [];

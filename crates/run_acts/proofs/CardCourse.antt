@@ -123,7 +123,7 @@ both-quiet log u p moved c driver codriver =
 
 -- one is judged and then the other is quiet, or the other way round
 judged-quiet : (v : Visit) (verdicts : List Verdict) (a b c : Course) → IsJudged v verdicts a b → IsQuiet b c → IsJudged v verdicts a c
-judged-quiet v verdicts a b c p q = record {
+judged-quiet v _ a b c p q = record {
   found = q.found ∙ p.found;
   entered = q.entered ∙ p.entered;
   more = p.more ++ q.more;

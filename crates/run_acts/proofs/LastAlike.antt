@@ -152,6 +152,6 @@ module _ (log : RunLog) (front : List TraceSecond) (y s : TraceSecond) (none : s
 -- A SECOND WITHOUT ACTIONS at the speed of the last one
 pub last-ends : (log : RunLog) (done : List TraceSecond) (s : TraceSecond) → LastAt done s.speed → s.actions ≡ [] → has_power (went log done).before s ≡ true → (limit : ℕ) →
     (bares_by (span_before (seen_spans (seen_of log done)) (seen_next log done s)) (seen_next log done s ∷ []) ≡ []) × (overs_by limit (span_before (seen_spans (seen_of log done)) (seen_next log done s)) (seen_next log done s ∷ []) ≡ [])
-last-ends log done s h none power limit =
+last-ends log _ s h none power limit =
     subst (λ (ss : List TraceSecond). (bares_by (span_before (seen_spans (seen_of log ss)) (seen_next log ss s)) (seen_next log ss s ∷ []) ≡ []) × (overs_by limit (span_before (seen_spans (seen_of log ss)) (seen_next log ss s)) (seen_next log ss s ∷ []) ≡ [])) (sym h.2)
     (alike-ends log h.0 h.1 s none h.3 (subst (λ (ss : List TraceSecond). has_power (went log ss).before s ≡ true) h.2 power) limit)

@@ -636,7 +636,7 @@ module _ {U A0 B0 : State} {chip_a chip_b : CardState} (n speed begun : ℕ) (ol
 
 -- WITHOUT POWER, and at any supply of a run's power
 pub at-supply : (o : Origin) (done : List TraceSecond) (log : RunLog) (unfound next : ℕ) (power : Power) (a b : UnitPower) (d : Devices) → Supplies power a → Supplies power b → Evented o done log unfound next a d → Evented o done log unfound next b d
-at-supply o done log unfound next Lit (IsLit []) b d x y v = absurd x
+at-supply o done _ unfound next Lit (IsLit []) b d x y v = absurd x
 at-supply o done log unfound next Lit (IsLit (t ∷ xs)) (IsLit []) d x y v = absurd y
 at-supply o done log unfound next Lit (IsLit (t ∷ xs)) (IsLit (u ∷ ys)) d x y v = evented-lit o done log unfound next t u xs ys d v
 at-supply o done log unfound next Lit (IsLit (t ∷ xs)) IsDue d x y v = absurd y

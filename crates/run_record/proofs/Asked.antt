@@ -228,7 +228,7 @@ module _ (began : RunLog) (done : List TraceSecond) (log : RunLog) (s : TraceSec
 
 -- one more second, and some
 from-append : (log : RunLog) (xs ys : List TraceSecond) (before : Before) (w : Went) → w.before ≡ before → asked_from log before (xs ++ ys) ≡ asked_from log before xs ++ asked_from log (fold (went_on log) w xs).before ys
-from-append log [] ys before w is = ap (λ (b : Before). asked_from log b ys) (sym is)
+from-append log [] ys _ w is = ap (λ (b : Before). asked_from log b ys) (sym is)
 from-append log (x ∷ xs) ys before w is =
     let next : Before = before_next before (second_told log before x) in
     ap (λ (l : List Asked). asked_in log before x ++ l) (from-append log xs ys next (went_on log w x) (ap (λ (b : Before). before_next b (second_told log b x)) is))
@@ -247,7 +247,7 @@ asks-nothing log before s none = by (has_power before s)
     by false = refl
 
 pub idle-asked : (log : RunLog) (before : Before) (ss : List TraceSecond) → All (λ (s : TraceSecond). s.actions ≡ []) ss → asked_from log before ss ≡ []
-idle-asked log before [] all = refl
+idle-asked log _ [] all = refl
 idle-asked log before (s ∷ ss) all =
     ap (λ (l : List Asked). l ++ asked_from log (before_next before (second_told log before s)) ss) (asks-nothing log before s (All-head (λ (x : TraceSecond). x.actions ≡ []) s ss all))
     ∙ idle-asked log (before_next before (second_told log before s)) ss (All-tail (λ (x : TraceSecond). x.actions ≡ []) s ss all)
