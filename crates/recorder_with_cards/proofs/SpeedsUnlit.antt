@@ -119,8 +119,8 @@ module _ (o : Origin) (done : List TraceSecond) (old : Run) (before : Outcome) (
   had : (supply : UnitPower) → Supplies Lit supply → IsLastOf supply done old.begun → HadActions done old.begun
   had (IsLit []) powers _ = absurd powers
   had (IsLit (t ∷ span)) powers last = last
-  had IsDue powers last = absurd powers
-  had IsLost powers last = absurd powers
+  had IsDue powers _ = absurd powers
+  had IsLost powers _ = absurd powers
 
   plain-off : (n : ℕ) (breaks : Listed Break) → breaks ≡ with_lines [] before.breaks → HasBlocks o (log_of (record before { breaks = breaks })) (done ++ dark n old.next) d
   plain-off n breaks told =

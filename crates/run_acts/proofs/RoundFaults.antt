@@ -485,16 +485,16 @@ module _ (o : Origin) (done : List TraceSecond) (s : TraceSecond) (q : Point) (b
 abbrev pub IsUntoldAt : TraceSecond → Phase → RunLog → Cabin → List Minute → Type 0
 IsUntoldAt s (In zero) _ _ all = ⊥
 IsUntoldAt s (In (suc n)) log cabin all = IsUntold s n log cabin
-IsUntoldAt s Keeping log cabin all = (length all ≤ 1) × (is_torn_in log s.number Keeping CoDriver ≡ false)
+IsUntoldAt s Keeping log _ all = (length all ≤ 1) × (is_torn_in log s.number Keeping CoDriver ≡ false)
 
 untold-follows : (s : TraceSecond) (at : Phase) (log : RunLog) (cabin : Cabin) (all : List Minute) → IsUntoldAt s at log cabin all → Follows s at log cabin
 untold-follows s (In zero) _ _ all h = absurd h
-untold-follows s (In (suc n)) log cabin all h = (λ slot torn. no-both (is_torn_in log s.number (In (suc n)) slot) torn (h.torn slot), h.found, h.bare)
-untold-follows s Keeping log cabin all h = tt
+untold-follows s (In (suc n)) log _ all h = (λ slot torn. no-both (is_torn_in log s.number (In (suc n)) slot) torn (h.torn slot), h.found, h.bare)
+untold-follows s Keeping _ _ all h = tt
 
 untold-once : (s : TraceSecond) (at : Phase) (log : RunLog) (cabin : Cabin) (all : List Minute) → IsUntoldAt s at log cabin all → IsOnce s at log (length all)
 untold-once s (In n) _ _ all h = tt
-untold-once s Keeping log cabin all h = (h.0, λ more. h.1)
+untold-once s Keeping _ _ all h = (h.0, λ more. h.1)
 
 -- it came so far
 abbrev pub HasCome : List Minute → KeepingAt → (t u : KeepingState) → Reach → Type 0

@@ -637,22 +637,22 @@ module _ {U A0 B0 : State} {chip_a chip_b : CardState} (n speed begun : ℕ) (ol
 -- WITHOUT POWER, and at any supply of a run's power
 pub at-supply : (o : Origin) (done : List TraceSecond) (log : RunLog) (unfound next : ℕ) (power : Power) (a b : UnitPower) (d : Devices) → Supplies power a → Supplies power b → Evented o done log unfound next a d → Evented o done log unfound next b d
 at-supply o done _ unfound next Lit (IsLit []) b d x y v = absurd x
-at-supply o done log unfound next Lit (IsLit (t ∷ xs)) (IsLit []) d x y v = absurd y
+at-supply o done _ unfound next Lit (IsLit (t ∷ xs)) (IsLit []) d x y v = absurd y
 at-supply o done log unfound next Lit (IsLit (t ∷ xs)) (IsLit (u ∷ ys)) d x y v = evented-lit o done log unfound next t u xs ys d v
-at-supply o done log unfound next Lit (IsLit (t ∷ xs)) IsDue d x y v = absurd y
-at-supply o done log unfound next Lit (IsLit (t ∷ xs)) IsLost d x y v = absurd y
-at-supply o done log unfound next Lit IsDue b d x y v = absurd x
-at-supply o done log unfound next Lit IsLost b d x y v = absurd x
-at-supply o done log unfound next Due (IsLit xs) b d x y v = absurd x
-at-supply o done log unfound next Due IsDue (IsLit xs) d x y v = absurd y
-at-supply o done log unfound next Due IsDue IsDue d x y v = v
-at-supply o done log unfound next Due IsDue IsLost d x y v = absurd y
-at-supply o done log unfound next Due IsLost b d x y v = absurd x
-at-supply o done log unfound next Lost (IsLit xs) b d x y v = absurd x
-at-supply o done log unfound next Lost IsDue b d x y v = absurd x
-at-supply o done log unfound next Lost IsLost (IsLit xs) d x y v = absurd y
-at-supply o done log unfound next Lost IsLost IsDue d x y v = absurd y
-at-supply o done log unfound next Lost IsLost IsLost d x y v = v
+at-supply o done _ unfound next Lit (IsLit (t ∷ xs)) IsDue d x y v = absurd y
+at-supply o done _ unfound next Lit (IsLit (t ∷ xs)) IsLost d x y v = absurd y
+at-supply o done _ unfound next Lit IsDue b d x y v = absurd x
+at-supply o done _ unfound next Lit IsLost b d x y v = absurd x
+at-supply o done _ unfound next Due (IsLit xs) b d x y v = absurd x
+at-supply o done _ unfound next Due IsDue (IsLit xs) d x y v = absurd y
+at-supply o done _ unfound next Due IsDue IsDue d x y v = v
+at-supply o done _ unfound next Due IsDue IsLost d x y v = absurd y
+at-supply o done _ unfound next Due IsLost b d x y v = absurd x
+at-supply o done _ unfound next Lost (IsLit xs) b d x y v = absurd x
+at-supply o done _ unfound next Lost IsDue b d x y v = absurd x
+at-supply o done _ unfound next Lost IsLost (IsLit xs) d x y v = absurd y
+at-supply o done _ unfound next Lost IsLost IsDue d x y v = absurd y
+at-supply o done _ unfound next Lost IsLost IsLost d x y v = v
 
 -- it was cut in the first of n seconds
 pub dark-events : (d : Devices) (n speed begun : ℕ) (old : Run) (before : Outcome) → 0 < n → old.next % 60 + n ≤ 60 → (o : Origin) (done : List TraceSecond) (s : TraceSecond) → IsNow s speed old → length s.actions ≡ begun → (1 < n → s.actions ≡ []) → CutEvented o done s old before d →
