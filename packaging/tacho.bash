@@ -16,4 +16,5 @@ _tacho() {
   mapfile -t COMPREPLY < <(compgen -W "$words" -- "$word")
 }
 
-complete -F _tacho tacho
+# Where no word is to come, as behind `<` and `>`, bash completes the names of files.
+complete -o default -F _tacho tacho
