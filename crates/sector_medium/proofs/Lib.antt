@@ -1,0 +1,5 @@
+pub mod Redos
+pub mod Lifts
+pub mod Moves
+pub mod Known
+pub mod Laying

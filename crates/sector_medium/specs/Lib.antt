@@ -1,0 +1,4 @@
+pub mod Disk
+pub mod Redo
+pub mod RedoLaws
+pub mod Recovered

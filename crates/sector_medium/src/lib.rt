@@ -1,0 +1,16 @@
+//! A memory that a stop leaves whole, write by write, over a disk that keeps only its sectors whole.
+#![tactic(auto)]
+
+mod disk;
+mod found;
+mod over;
+mod record;
+mod redo_medium;
+mod steps;
+
+pub use disk::Disk;
+use found::{Found, Redo};
+use over::read_over;
+use record::seen;
+pub use redo_medium::RedoMedium;
+use steps::{settle, store};
