@@ -1,0 +1,10 @@
+pub mod Lost
+pub mod Saying
+pub mod Turning
+pub mod Images
+pub mod Cards
+pub mod Short
+pub mod Together
+pub mod Theorem
+pub mod Bytes
+pub mod Examples
