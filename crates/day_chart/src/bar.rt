@@ -1,7 +1,7 @@
 //! A bar of the picture.
 ghost use Rattle.std.specs.Prelude.{◌≡◌, ◌≤◌, ◌<◌, ◌+◌, ◌-◌, ◌++◌, true, OnOk};
 ghost use Rattle.slot_bars.specs.Seeing.{seen_words};
-ghost use Rattle.slot_bars.specs.Runs.{is_run};
+ghost use Rattle.file_view.specs.Runs.{is_run};
 ghost use Rattle.day_chart.specs.Bars.{point_five, half_text, look, bold, pale, bar_text, title_text};
 
 use crate::frame::DAY_BEGIN;

@@ -11,7 +11,8 @@ use Rattle.file_view.proofs.Lines.{minutes_back}
 use Rattle.slot_bars.specs.declared.seen.Seen.{Seen}
 use Rattle.slot_bars.specs.Seeing.{same_seen, bars_of}
 use Rattle.slot_bars.specs.Exact.{seen_exact}
-use Rattle.slot_bars.proofs.Runs.{row, viewed, on_append}
+use Rattle.file_view.proofs.Growing.{row, viewed}
+use Rattle.slot_bars.proofs.Runs.{on_append}
 use Rattle.day_totals.specs.declared.figures.Figure.{Figure}
 use Rattle.day_totals.specs.Figures.{counts, total, line_total}
 

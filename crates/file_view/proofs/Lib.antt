@@ -1,5 +1,6 @@
 pub mod Lines
 pub mod Deciding
+pub mod Growing
 pub mod Spelling
 pub mod Finding
 pub mod Fronts

@@ -1,17 +1,23 @@
 -- Lines stand for the minutes that they were made of.
-use Rattle.std.proofs.Common.{◌≡◌, ◌∙◌, ℕ, suc, ◌+◌, ◌-◌, ◌<◌, ◌≤◌, ◌&&◌, Bool, true, List, [], ◌∷◌, ◌++◌, map, refl, ap, sym, arith}
+use Rattle.std.proofs.Common.{◌≡◌, ◌∙◌, ℕ, suc, ◌+◌, ◌-◌, ◌<◌, ◌≤◌, ◌&&◌, Bool, true, false, List, [], ◌∷◌, ◌++◌, map, refl, ap, sym, arith}
 use Rattle.std.specs.Prelude.{◌==◌, nat_lt, IsTrue}
 use Rattle.std.proofs.lemmas.Bool.{lt-ltb, ltb-true, and_from}
 use Rattle.std.proofs.lemmas.Bool.Decides.{nat_tests}
 use Rattle.std.specs.List.{range_with_len, list_all, AllByRecursion}
 use Rattle.activity_codec.proofs.ByTest.{by_test}
 use Rattle.activity_codec.specs.declared.entries.Entry.{Entry}
+use Rattle.activity_codec.specs.declared.values.Activity.{Activity}
+use Rattle.activity_codec.specs.declared.values.Activity.TheVariants.{Rest, Available, Work, Driving}
+use Rattle.activity_codec.specs.declared.values.Slot.{Slot}
+use Rattle.activity_codec.specs.declared.values.Slot.TheVariants.{Driver, CoDriver}
+use Rattle.activity_codec.specs.Activity.{same_activity, same_slot}
 use Rattle.unit_model.specs.Days.{UnitMinute}
+use Rattle.view_model.specs.declared.State.{State}
 use Rattle.view_model.specs.declared.UnitShown.{UnitShown}
 use Rattle.view_model.specs.declared.CardShown.{CardShown}
 use Rattle.view_model.specs.declared.Viewed.{Viewed}
 use Rattle.view_model.specs.declared.Line.{Line}
-use Rattle.view_model.specs.Lines.{day_of_minute, goes_on, with_minute, lines_of}
+use Rattle.view_model.specs.Lines.{day_of_minute, goes_on, with_minute, lines_of, same_bool, same_state, same_unit, same_card}
 use Rattle.view_text.specs.Entries.{entry_shown}
 use Rattle.view_text.specs.Exact.{both}
 use Rattle.tacho_types.specs.declared.calendar.TheConstants.{DAYS}
@@ -102,3 +108,27 @@ entries_back (e ∷ es) = ap (λ (l : List Entry). e ∷ l) (entries_back es)
 pub told_entries : (minutes : List (Viewed CardShown)) → map entry_shown (map entry_told minutes) ≡ minutes
 told_entries [] = refl
 told_entries (m ∷ ms) = ap (λ (l : List (Viewed CardShown)). m ∷ l) (told_entries ms)
+
+-- the same is shown of a minute and of itself
+pub bool_self : (b : Bool) → same_bool b b ≡ true
+bool_self true = refl
+bool_self false = refl
+
+slot_self : (s : Slot) → same_slot s s ≡ true
+slot_self Driver = refl
+slot_self CoDriver = refl
+
+pub activity_self : (a : Activity) → same_activity a a ≡ true
+activity_self Rest = refl
+activity_self Available = refl
+activity_self Work = refl
+activity_self Driving = refl
+
+state_self : (s : State) → same_state s s ≡ true
+state_self s = rw (activity_self s.act, bool_self s.present) refl
+
+pub unit_self : (shown : UnitShown) → same_unit shown shown ≡ true
+unit_self shown = rw (state_self shown.driver, state_self shown.codriver, bool_self shown.crew) refl
+
+pub card_self : (shown : CardShown) → same_card shown shown ≡ true
+card_self shown = rw (slot_self shown.slot, activity_self shown.act, bool_self shown.crew) refl

@@ -1,15 +1,15 @@
 -- The minutes of the days that are shown of a unit file.
-use Rattle.std.proofs.Common.{◌≡◌, ◌∙◌, ℕ, zero, suc, ◌+◌, ◌-◌, ◌*◌, ◌/◌, ◌%◌, ◌^◌, ◌<◌, ◌≤◌, Bool, true, false, cond, Option, Some, None, option_map, List, [], ◌∷◌, ◌++◌, length, map, take, drop, get_or, ap, sym, subst, arith}
+use Rattle.std.proofs.Common.{◌≡◌, ◌∙◌, ℕ, zero, suc, ◌+◌, ◌-◌, ◌*◌, ◌/◌, ◌%◌, ◌^◌, ◌<◌, ◌≤◌, Bool, true, false, cond, Option, Some, None, option_map, List, [], ◌∷◌, ◌++◌, length, map, take, drop, get_or, refl, ap, sym, subst, arith}
 use Rattle.std.specs.Prelude.{flat_map, ◌==◌}
 use Rattle.std.specs.List.{range_with_len, AllByRecursion}
 use Rattle.std.proofs.lemmas.List.{take_more, flat_map_more}
-use Rattle.std.proofs.lemmas.List.FromFn.{get_or-map-range_with_len, length-map-range_with_len, map-range_with_len_more}
+use Rattle.std.proofs.lemmas.List.FromFn.{get_or-map-range_with_len, length-map-range_with_len}
 use Rattle.activity_codec.proofs.ByTest.{by_test}
 use Rattle.card_layout.specs.Images.{number_at}
 use Rattle.activity_codec.specs.declared.words.Change.{Change}
 use Rattle.activity_codec.specs.Words.{change_of}
 use Rattle.card_retention.specs.Entries.{latest}
-use Rattle.unit_model.specs.Days.{StoredDay, UnitMinute, state_at, state_in, minute_at, minutes_shown, day_of as stored_day_of}
+use Rattle.unit_model.specs.Days.{StoredDay, UnitMinute, state_at, state_in, minute_at, minutes_shown, is_crew_in, day_of as stored_day_of}
 use Rattle.message_model.specs.Messages.{Message, DayMessage}
 use Rattle.message_model.specs.Showing.{time_in, told_day, day_minutes}
 use Rattle.view_model.specs.declared.State.{State}
@@ -22,6 +22,7 @@ use Rattle.file_view.specs.Histories.{minute_shown}
 use Rattle.file_view.specs.Showing.{before_last}
 use Rattle.file_view.specs.UnitFiles.{days_told}
 use Rattle.file_view.specs.UnitShowing.{IsStoredAt, AreStored, minutes_told, minutes_of_day, slot_words, state_by, crew_by}
+use Rattle.file_view.proofs.Growing.{viewed, row}
 use Rattle.file_view.proofs.Telling.{rest_is}
 use Rattle.file_view.proofs.UnitFronts.{stored_at, stored_count, minutes_by_days}
 use Rattle.file_view.proofs.UnitStates.{state_shown, crew_is}
@@ -93,38 +94,53 @@ days_named bytes time (d ∷ ds) (m ∷ ms) are = named_append (day_minutes time
 pub shown_named : (bytes : List ℕ) (time : Option ℕ) (ds : List DayAt) (ms : List DayMessage) → AreStored bytes ds ms → (from : ℕ) → Named (days_minutes time (drop from ms))
 shown_named bytes time ds ms are from = days_named bytes time (drop from ds) (drop from ms) (stored_drop bytes from ds ms are)
 
--- the first minutes of a day, and one more
+-- the first minutes of a day, and more
 abbrev pub first_minutes : DayMessage → ℕ → List UnitMinute
 first_minutes m n = map (minute_at (told_day m)) (range_with_len 0 n)
 
-pub minute_more : (m : DayMessage) (n : ℕ) → first_minutes m (n + 1) ≡ first_minutes m n ++ minute_at (told_day m) n ∷ []
-minute_more m n = map-range_with_len_more (minute_at (told_day m)) 0 n n (omega arith)
+more_minutes : {X : Type 0} → (f : ℕ → X) (n more t : ℕ) → map f (range_with_len t (n + more)) ≡ map f (range_with_len t n) ++ map f (range_with_len (t + n) more)
+more_minutes {X} f zero more t = ap (λ (k : ℕ). map f (range_with_len t k)) (omega arith) ∙ ap (λ (k : ℕ). map f (range_with_len k more)) (omega arith)
+more_minutes {X} f (suc n) more t =
+    let long : suc n + more ≡ suc (n + more) = omega arith in
+    ap (λ (k : ℕ). map f (range_with_len t k)) long
+    ∙ ap (λ (l : List X). f t ∷ l) (more_minutes f n more (t + 1) ∙ ap (λ (k : ℕ). map f (range_with_len (t + 1) n) ++ map f (range_with_len k more)) (omega arith))
+
+pub minutes_more : (m : DayMessage) (t end : ℕ) → t ≤ end → first_minutes m end ≡ first_minutes m t ++ map (minute_at (told_day m)) (range_with_len t (end - t))
+minutes_more m t end le =
+    let long : end ≡ t + (end - t) = omega (arith, le) in
+    ap (λ (n : ℕ). first_minutes m n) long ∙ more_minutes (minute_at (told_day m)) t (end - t) 0
+    ∙ ap (λ (k : ℕ). first_minutes m t ++ map (minute_at (told_day m)) (range_with_len k (end - t))) (omega arith)
 
 pub day_whole : (m : DayMessage) (date : ℕ) (time : Option ℕ) (n : ℕ) → date ≡ m.date → n ≡ minutes_of_day date time → first_minutes m n ≡ day_minutes time (told_day m)
 day_whole m date None n date_is n_is = ap (λ (k : ℕ). first_minutes m k) n_is
 day_whole m date (Some time) n date_is n_is = ap (λ (k : ℕ). first_minutes m k) (n_is ∙ ap (λ (d : ℕ). minutes_shown (time / 60) (d / 86400)) date_is)
 
 -- what is shown of a minute by the changes that decide it
-abbrev pub shown_by : ℕ → Option Change → Option Change → Viewed UnitShown
-shown_by minute driver codriver = record { minute = minute; shown = record { driver = state_by driver; codriver = state_by codriver; crew = crew_by driver } }
+abbrev pub shown_by : Option Change → Option Change → UnitShown
+shown_by driver codriver = record { driver = state_by driver; codriver = state_by codriver; crew = crew_by driver }
 
-pub minute_is : (m : DayMessage) (date t : ℕ) (driver codriver : Option Change) → date ≡ m.date → m.date % 86400 ≡ 0
-    → driver ≡ option_map change_of (latest (slot_words 0 m.words) t) → codriver ≡ option_map change_of (latest (slot_words 1 m.words) t)
-    → shown_by (date / 60 + t) driver codriver ≡ minute_shown (minute_at (told_day m) t)
-minute_is m date t driver codriver date_is whole driver_is codriver_is =
-    let first : date / 60 + t ≡ 1440 * (m.date / 86400) + t = omega (arith, date_is, whole) in
+minute_is : (m : DayMessage) (first t minute : ℕ) (driver codriver : Option Change) → first ≡ m.date / 60 → m.date % 86400 ≡ 0 → minute ≡ first + t
+    → option_map change_of (latest (slot_words 0 m.words) t) ≡ driver → option_map change_of (latest (slot_words 1 m.words) t) ≡ codriver
+    → minute_shown (minute_at (told_day m) t) ≡ viewed (shown_by driver codriver) minute
+minute_is m first t minute driver codriver first_is whole there driver_is codriver_is =
+    let place : 1440 * (m.date / 86400) + t ≡ minute = omega (arith, first_is, whole, there) in
     let of : State → State → Bool → Viewed UnitShown = λ a b crew. record { minute = 1440 * (m.date / 86400) + t; shown = record { driver = a; codriver = b; crew = crew } } in
-    let own = option_map change_of (latest (slot_words 0 m.words) t) in
-    let other = option_map change_of (latest (slot_words 1 m.words) t) in
-    ap (λ (n : ℕ). shown_by n driver codriver) first
-    ∙ ap (λ (o : Option Change). shown_by (1440 * (m.date / 86400) + t) o codriver) driver_is
-    ∙ ap (λ (o : Option Change). shown_by (1440 * (m.date / 86400) + t) (option_map change_of (latest (slot_words 0 m.words) t)) o) codriver_is
-    ∙ ap (λ (a : State). of a (state_by other) (crew_by own)) (sym (state_shown 0 t m.words))
-    ∙ ap (λ (b : State). of (state_in_of 0) b (crew_by own)) (sym (state_shown 1 t m.words))
-    ∙ ap (λ (crew : Bool). of (state_in_of 0) (state_in_of 1) crew) (sym (crew_is t m.words))
-  where
-    state_in_of : ℕ → State
-    state_in_of slot = state_in (state_at slot t m.words)
+    ap (λ (a : State). of a (state_in (state_at 1 t m.words)) (is_crew_in (state_at 0 t m.words))) (state_shown 0 t m.words ∙ ap state_by driver_is)
+    ∙ ap (λ (b : State). of (state_by driver) b (is_crew_in (state_at 0 t m.words))) (state_shown 1 t m.words ∙ ap state_by codriver_is)
+    ∙ ap (λ (crew : Bool). of (state_by driver) (state_by codriver) crew) (crew_is t m.words ∙ ap crew_by driver_is)
+    ∙ ap (λ (n : ℕ). viewed (shown_by driver codriver) n) place
+
+-- and of minutes in a row that the same changes decide
+pub rows_are : (m : DayMessage) (first : ℕ) → first ≡ m.date / 60 → m.date % 86400 ≡ 0 → (driver codriver : Option Change) (n t minute : ℕ) → minute ≡ first + t
+    → ((k : ℕ) → t ≤ k → k < t + n → option_map change_of (latest (slot_words 0 m.words) k) ≡ driver)
+    → ((k : ℕ) → t ≤ k → k < t + n → option_map change_of (latest (slot_words 1 m.words) k) ≡ codriver)
+    → map minute_shown (map (minute_at (told_day m)) (range_with_len t n)) ≡ row (shown_by driver codriver) minute n
+rows_are m first first_is whole driver codriver zero t minute is own other = refl
+rows_are m first first_is whole driver codriver (suc n) t minute is own other =
+    ap (λ (v : Viewed UnitShown). v ∷ map minute_shown (map (minute_at (told_day m)) (range_with_len (t + 1) n)))
+    (minute_is m first t minute driver codriver first_is whole is (own t (omega arith) (omega arith)) (other t (omega arith) (omega arith)))
+    ∙ ap (λ (l : List (Viewed UnitShown)). viewed (shown_by driver codriver) minute ∷ l)
+    (rows_are m first first_is whole driver codriver n (t + 1) (minute + 1) (omega (arith, is)) (λ k le lt. own k (omega (arith, le)) (omega (arith, lt))) (λ k le lt. other k (omega (arith, le)) (omega (arith, lt))))
 
 -- a word of a day, and its slot
 pub stored_word : (bytes : List ℕ) (day : DayAt) (m : DayMessage) → IsStoredAt bytes day m → (i : ℕ) → i < day.words → number_at bytes (day.place + 2 * i) 2 ≡ get_or m.words i 0

@@ -6,6 +6,8 @@ pub mod Vehicles
 pub mod Fronts
 pub mod Files
 pub mod Places
+pub mod Runs
+pub mod Kept
 pub mod Deciding
 pub mod Reading
 pub mod Walking

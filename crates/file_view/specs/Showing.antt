@@ -1,5 +1,6 @@
 -- What is shown of a card file.
-use Rattle.std.specs.Prelude.{◌≡◌, ℕ, ◌-◌, nat_le, if◌then◌else◌, Option, Some, None, List, [], ◌∷◌}
+use Rattle.std.specs.Prelude.{◌≡◌, ℕ, ◌+◌, ◌-◌, nat_le, if◌then◌else◌, Option, Some, None, List, [], ◌∷◌, flat_map}
+use Rattle.std.specs.List.{range_with_len}
 use Rattle.activity_codec.specs.declared.entries.Entry.{Entry}
 use Rattle.activity_codec.specs.declared.words.Change.{Change}
 use Rattle.card_layout.specs.declared.files.Application.{Application}
@@ -46,3 +47,8 @@ entry_of minute (Some c) = if c.absent then []
 -- and where the minute is not behind the mark
 abbrev pub entry_up_to : (mark minute : ℕ) → Option Change → List Entry
 entry_up_to mark minute change = if nat_le minute mark then entry_of minute change else []
+
+-- those of minutes in a row
+abbrev pub entries_in : (mark first last : ℕ) → Option Change → List Entry
+entries_in mark first last change = flat_map (λ minute. entry_up_to mark minute change)
+    (range_with_len first (last + 1 - first))

@@ -1,9 +1,8 @@
 //! The entries that a card file shows.
 ghost use Rattle.std.specs.Prelude.{◌≡◌, ◌+◌, ◌*◌, ◌≤◌, ◌<◌, ◌++◌, ◌^◌, ℕ, List, [], Some, None, length, map, true};
-ghost use Rattle.std.specs.Prelude.{IfOk, IfErr, OnOk, option_map};
+ghost use Rattle.std.specs.Prelude.{IfOk, IfErr, OnOk};
 ghost use Rattle.std.specs.List.{AllByRecursion};
 ghost use Rattle.activity_codec.specs.declared.entries.Entry.{Entry as CardEntry};
-ghost use Rattle.activity_codec.specs.Words.{change_of};
 ghost use Rattle.card_layout.specs.Application.{IsApplication};
 ghost use Rattle.card_image.specs.CardFile.{FileEntry, IsCardFile, shown_entries, string_alone};
 ghost use Rattle.card_layout.specs.declared.files.Application.{Application as Sizes};
@@ -21,11 +20,13 @@ ghost use Rattle.file_view.specs.Histories.{AreLines, minutes_on, entry_told};
 ghost use Rattle.file_view.specs.Reading.{AreParts, days_part, vehicles_part, vehicles_size};
 ghost use Rattle.file_view.specs.Vehicles.{ShowsCard};
 ghost use Rattle.file_view.specs.Walking.{IsDayAt};
-ghost use Rattle.file_view.specs.Showing.{ShowsCardFile, TellsHeads, entries_told, entry_up_to, before_last};
+ghost use Rattle.file_view.specs.Runs.{is_run};
+ghost use Rattle.file_view.specs.Showing.{ShowsCardFile, TellsHeads, entries_told, entries_in, before_last};
 
 use crate::ViewFault;
 use crate::entry::part;
 use crate::parts::{Parts, days_len, load_days, vehicles_len};
+use crate::runs::add_run;
 use crate::string::{heads, words_of};
 use crate::vehicles::vehicles_in;
 use activity_codec::{Change, DAY_MINUTES};
@@ -36,8 +37,8 @@ use gated_ring::Ring;
 use std::alloc::{AllocError, Global};
 use std::marker::Model;
 use tach_media::{Memory, SliceMedium};
-use view_model::{CardShown, Line, Viewed};
-use view_text::{add_minute, lines_text};
+use view_model::{CardShown, Line};
+use view_text::lines_text;
 
 /// How many bytes the pointer of Vehicles_Used has (Appendix 1, CardVehiclesUsed).
 const VEHICLE_POINTER: usize = 2;
@@ -278,48 +279,55 @@ fn add_day(
     requires alone { string.now.shape.base ≡ 0 }
     requires short { length file.now < 2 ^ 32 }
     requires place { head.now.place < 4 + string.now.shape.size }
+    requires day { (d : Day) × IsDayAt string.now.shape file.now head.now d }
     ensures { (d : Day) (before : List CardEntry) → IsDayAt string.now.shape file.now head.now d
         → lines.old.items ≡ lines_of same_card (map entry_shown before)
         → OnOk result (lines.new.items ≡ lines_of same_card (map entry_shown (before ++ day_entries mark d))) }
 {
     let words = words_of(string, file, head);
     let first = head.date.0 / 60;
-    for t in 0..DAY_MINUTES {
-        add_told(lines, mark, first + t, words.at(t as usize))?;
+    let mut t = 0;
+    let mut place = 0;
+    while t < DAY_MINUTES {
+        let run = words.run_at(t, place);
+        add_told(lines, mark, first + t, first + run.end - 1, run.change)?;
+        place = run.place;
+        t = run.end;
     }
     Ok(())
 }
 
-/// Adds the entry that a change tells of a minute up to the mark, if it tells one.
+/// Adds the entries that a change tells of minutes in a row of one day, up to the mark, if it tells any.
 fn add_told(
     lines: &mut Vec<Line<CardShown>>,
     mark: u32,
-    minute: u32,
+    first: u32,
+    last: u32,
     change: Option<Change>,
 ) -> Result<(), AllocError>
+    requires { is_run first last ≡ true }
     ensures { (before : List CardEntry) → lines.old.items ≡ lines_of same_card (map entry_shown before)
         → OnOk result (lines.new.items
-        ≡ lines_of same_card (map entry_shown (before ++ entry_up_to mark minute change))) }
+        ≡ lines_of same_card (map entry_shown (before ++ entries_in mark first last change))) }
 {
     let change = match change {
         Some(change) => change,
         None => return Ok(()),
     };
-    if minute > mark {
+    if first > mark {
         return Ok(());
     }
     if change.absent {
         return Ok(());
     }
-    add_minute(
-        lines,
-        Viewed {
-            minute,
-            shown: CardShown {
-                slot: change.slot,
-                act: change.act,
-                crew: change.crew_or_known,
-            },
+    let run = Line {
+        first,
+        last: last.min(mark),
+        shown: CardShown {
+            slot: change.slot,
+            act: change.act,
+            crew: change.crew_or_known,
         },
-    )
+    };
+    add_run(lines, run)
 }

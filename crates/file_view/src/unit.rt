@@ -1,7 +1,6 @@
 //! The minutes that a unit file shows.
 ghost use Rattle.std.specs.Prelude.{◌≡◌, ◌+◌, ◌*◌, ◌≤◌, ◌<◌, ◌++◌, ◌∷◌, ◌^◌, ℕ, List, [], Some, None, length, map};
 ghost use Rattle.std.specs.Prelude.{drop, if◌then◌else◌, ◌==◌, ◌/◌, ◌%◌, IfOk, IfErr, OnOk, option_map};
-ghost use Rattle.activity_codec.specs.Words.{word_minute};
 ghost use Rattle.message_model.specs.Messages.{Message as FileMessage, AnOverview, ADay, Overview as FileOverview};
 ghost use Rattle.message_model.specs.Messages.{DayMessage, IsUnitFile};
 ghost use Rattle.message_model.specs.Showing.{day_minutes, told_day};
@@ -20,14 +19,15 @@ use crate::ViewFault;
 use crate::card::first_of;
 use crate::day_words::DayWords;
 use crate::entry::part;
+use crate::runs::add_run;
 use activity_codec::{Activity, Change, DAY_MINUTES, DAY_SECONDS};
 use byteorder::{BigEndian, ByteOrder};
 use std::alloc::{AllocError, Global};
 use std::marker::Model;
 use tach_media::Memory;
 use unit_messages::{Request, day_words, overview, read_message};
-use view_model::{Line, State, UnitShown, Viewed};
-use view_text::{add_minute, lines_text};
+use view_model::{Line, State, UnitShown};
+use view_text::lines_text;
 
 /// The least word of the co-driver slot: the slot is the highest bit of a word.
 const CODRIVER: u16 = 32768;
@@ -259,11 +259,20 @@ fn add_day(
     let words = words_of(b, day);
     let first = day.date / 60;
     let count = count_of(day.date, time);
-    for t in 0..count {
-        let driver = words.driver.at(t as usize);
-        let codriver = words.codriver.at(t as usize);
-        let minute = minute_of(first + t, driver, codriver);
-        add_minute(lines, minute)?;
+    let mut t = 0;
+    let mut places = (0, 0);
+    while t < count {
+        let driver = words.driver.run_at(t, places.0);
+        let codriver = words.codriver.run_at(t, places.1);
+        let end = driver.end.min(codriver.end).min(count);
+        let run = Line {
+            first: first + t,
+            last: first + end - 1,
+            shown: shown_by(driver.change, codriver.change),
+        };
+        add_run(lines, run)?;
+        places = (driver.place, codriver.place);
+        t = end;
     }
     Ok(())
 }
@@ -303,8 +312,7 @@ impl SlotWords {
 
     /// One word more, which stands before those that came.
     fn put_word(&mut self, word: u16)
-        ensures { (words : List ℕ) → word_minute word < 1440 → SlotsDecide self.old words
-            → SlotsDecide self.new (word ∷ words) }
+        ensures { (words : List ℕ) → SlotsDecide self.old words → SlotsDecide self.new (word ∷ words) }
     {
         if word < CODRIVER {
             self.driver.put_word(word);
@@ -330,23 +338,17 @@ fn words_of(b: &[u8], day: DayAt) -> SlotWords
 }
 
 /// What is shown of a minute by the changes that decide it; CREW is that of the driver's.
-fn minute_of(minute: u32, driver: Option<Change>, codriver: Option<Change>) -> Viewed<UnitShown>
-    ensures { result ≡ record {
-      minute = minute;
-      shown = record { driver = state_by driver; codriver = state_by codriver; crew = crew_by driver };
-    } }
+fn shown_by(driver: Option<Change>, codriver: Option<Change>) -> UnitShown
+    ensures { result ≡ record { driver = state_by driver; codriver = state_by codriver; crew = crew_by driver } }
 {
     let crew = match driver {
         Some(change) => change.crew_or_known,
         None => false,
     };
-    Viewed {
-        minute,
-        shown: UnitShown {
-            driver: state_of(driver),
-            codriver: state_of(codriver),
-            crew,
-        },
+    UnitShown {
+        driver: state_of(driver),
+        codriver: state_of(codriver),
+        crew,
     }
 }
 

@@ -13,9 +13,9 @@ use Rattle.view_text.specs.Exact.{both}
 use Rattle.tacho_types.specs.declared.calendar.TheConstants.{DAYS}
 use Rattle.file_view.specs.Histories.{line_minutes, minutes_on, AreLines}
 use Rattle.slot_bars.specs.DaysOf.{is_before, with_front, day_of, days_of}
-use Rattle.slot_bars.specs.Runs.{is_run}
+use Rattle.file_view.specs.Runs.{is_run}
 use Rattle.slot_bars.specs.DayLines.{AreDayLines, day_lines, is_behind, is_behind_at}
-use Rattle.slot_bars.proofs.Runs.{viewed, row, equal, run_parts}
+use Rattle.file_view.proofs.Growing.{viewed, row, equal, run_parts}
 
 -- each of these lines has minutes, of one day
 abbrev AreRuns : {X : Type 0} → List (Line X) → Type 0

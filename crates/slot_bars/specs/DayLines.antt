@@ -5,7 +5,7 @@ use Rattle.tacho_types.specs.declared.calendar.TheConstants.{DAYS}
 use Rattle.view_model.specs.declared.Line.{Line}
 use Rattle.view_model.specs.Lines.{day_of_minute}
 use Rattle.file_view.specs.Histories.{minutes_on}
-use Rattle.slot_bars.specs.Runs.{is_run}
+use Rattle.file_view.specs.Runs.{is_run}
 
 -- each of these lines has minutes, of one day that a time of four bytes can name
 abbrev pub AreDayLines : {X : Type 0} → List (Line X) → Type 0

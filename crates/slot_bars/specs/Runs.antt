@@ -1,18 +1,14 @@
 -- Minutes in a row of which the same is seen.
-use Rattle.std.specs.Prelude.{ℕ, ◌==◌, ◌&&◌, ◌||◌, not, nat_le, Bool, true, false, List, [], ◌∷◌}
+use Rattle.std.specs.Prelude.{◌&&◌, ◌||◌, not, Bool, true, false, List}
 use Rattle.activity_codec.specs.declared.values.Slot.{Slot}
 use Rattle.activity_codec.specs.declared.values.Activity.TheVariants.{Rest}
 use Rattle.view_model.specs.declared.UnitShown.{UnitShown}
 use Rattle.view_model.specs.declared.CardShown.{CardShown}
 use Rattle.view_model.specs.declared.Line.{Line}
-use Rattle.view_model.specs.Lines.{day_of_minute}
 use Rattle.view_model.specs.declared.marks.Gap.{Gap}
+use Rattle.file_view.specs.Runs.{is_run}
 use Rattle.slot_bars.specs.declared.seen.Seen.{Seen}
 use Rattle.slot_bars.specs.Seeing.{meets_gap, state_in, slot_seen}
-
--- minutes from one to another are some, and of one day
-abbrev pub is_run : (first last : ℕ) → Bool
-is_run first last = nat_le first last && day_of_minute first == day_of_minute last
 
 -- a line's minutes are some, of one day, and the same is seen of the slot in each
 abbrev pub is_plain : List Gap → Slot → Line UnitShown → Bool
@@ -27,12 +23,6 @@ seen_run gaps slot line =
       last = line.last;
       shown = (slot_seen gaps slot (record { minute = line.first; shown = line.shown })).shown;
     }
-
--- the last bar ends with a later minute
-abbrev pub with_last : ℕ → List (Line Seen) → List (Line Seen)
-with_last last [] = []
-with_last last (bar ∷ []) = record { first = bar.first; last = last; shown = bar.shown } ∷ []
-with_last last (bar ∷ next ∷ bars) = bar ∷ with_last last (next ∷ bars)
 
 -- a line of a card as a unit would show it, with the card in its driver slot
 abbrev pub as_unit : Line CardShown → Line UnitShown

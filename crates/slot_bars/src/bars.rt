@@ -3,11 +3,13 @@ ghost use Rattle.std.specs.Prelude.{◌≡◌, ◌++◌, true, List, map, IfOk, 
 ghost use Rattle.view_model.specs.declared.Viewed.{Viewed as ViewedMinute};
 ghost use Rattle.file_view.specs.Histories.{line_minutes, minutes_on};
 ghost use Rattle.slot_bars.specs.Seeing.{bars_of, slot_seen, card_seen, state_in};
-ghost use Rattle.slot_bars.specs.Runs.{is_run, is_plain, seen_run, with_last, as_unit};
+ghost use Rattle.file_view.specs.Runs.{is_run};
+ghost use Rattle.slot_bars.specs.Runs.{is_plain, seen_run, as_unit};
 ghost use Rattle.slot_bars.specs.declared.seen.Seen.{Seen as MinuteSeen};
 
 use crate::seen::{Seen, meets_gap, slot_seen, state_in};
 use activity_codec::{Activity, DAY_MINUTES, Slot};
+use file_view::add_run;
 use std::alloc::{AllocError, Global};
 use view_model::{CardShown, Gap, Line, State, UnitShown, Viewed};
 use view_text::add_minute;
@@ -134,30 +136,4 @@ fn seen_run(line: Line<UnitShown>, gaps: &[Gap], slot: Slot) -> Line<Seen>
         last: line.last,
         shown: first.shown,
     }
-}
-
-/// Adds minutes in a row of one day in which the same is seen.
-fn add_run(bars: &mut Vec<Line<Seen>>, run: Line<Seen>) -> Result<(), AllocError>
-    requires { is_run run.first run.last ≡ true }
-    ensures { (minutes : List (ViewedMinute MinuteSeen)) → bars.old.items ≡ bars_of minutes
-        → OnOk result (bars.new.items ≡ bars_of (minutes ++ line_minutes run)) }
-{
-    let first = Viewed {
-        minute: run.first,
-        shown: run.shown,
-    };
-    add_minute(bars, first)?;
-    stretch(bars.as_mut_slice(), run.last);
-    Ok(())
-}
-
-/// Lets the last bar end with a later minute.
-fn stretch(bars: &mut [Line<Seen>], last: u32)
-    ensures { bars.new ≡ with_last last bars.old }
-{
-    let count = bars.len();
-    if count == 0 {
-        return;
-    }
-    bars[count - 1].last = last;
 }

@@ -84,3 +84,12 @@ returns-clause-rise c =
     ap (λ (l : List (Viewed CardShown)). map entry_told l) (minutes_back same_card card_exact (map entry_shown es) c.loop-head.lines.items c.loop-head.invariant) ∙ entries_back es in
     let held = holds_own c.in-Some.string.shape (length c.part-file.result.now - 4) c.part-file.result.now c.in-Some.ensures.some.0 c.in-Some.ensures.some.1.holds in
     subst Rise (sym entries) (shown_rise c.end_mark-mark.result c.loop-head.head-index c.first_of-from.result (days_of c.in-Some.string.shape c.part-file.result.now) held.ordered)
+
+pub add_day-requires-clause-day : goal.add_day-requires-clause-day
+add_day-requires-clause-day c =
+    let r = c.in-Some.string.shape in
+    let x = c.part-file.result.now in
+    let long : 4 ≤ length c.part-file.result.now = omega (arith, c.part-file.ensures.len, c.days_len.ensures.value) in
+    let there = shown_day c.in-Some.string.shape c.in-Some.ensures.shape c.part-file.result.now (inside_own r x c.in-Some.ensures.some.0 long) (days_of c.in-Some.string.shape c.part-file.result.now)
+    (holds_own r (length c.part-file.result.now - 4) x c.in-Some.ensures.some.0 c.in-Some.ensures.some.1.holds) c.as_slice.result.now (c.as_slice.ensures.value ∙ c.in_ok-all.ensures) c.first_of-from.result c.loop-head.head-index head_none day_none (omega (arith, c.loop-head-test.true)) in
+    (get_or (drop c.first_of-from.result (days_of c.in-Some.string.shape c.part-file.result.now)) c.loop-head.head-index day_none, there.0)

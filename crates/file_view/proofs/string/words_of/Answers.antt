@@ -1,10 +1,8 @@
 use Rattle.std.proofs.Common.{◌≡◌, ◌∙◌, ℕ, ◌-◌, ◌<◌, [], ◌∷◌, length, drop, get_or, ap, sym, subst, arith}
 use Rattle.std.proofs.lemmas.List.{drop_more}
 use Rattle.std.proofs.Math.ListN.{drop_of_length-le}
-use Rattle.activity_codec.specs.Words.{word_minute}
 use Rattle.card_days.specs.declared.head.DayHead.{DayHead}
 use Rattle.file_view.specs.Deciding.{Decides}
-use Rattle.file_view.proofs.Walks.{word_low}
 use Rattle.file_view.proofs.string.words_of.Goals as goal
 
 pub loop-left-init : goal.loop-left-init
@@ -26,9 +24,8 @@ loop-left-preserved c = record {
       let more : drop (c.loop-left.left - 1) d.words ≡ get_or d.words (c.loop-left.left - 1) 0 ∷ drop c.loop-left.left d.words =
       drop_more d.words (c.loop-left.left - 1) 0 low ∙ ap (λ (n : ℕ). get_or d.words (c.loop-left.left - 1) 0 ∷ drop n d.words) (omega (arith, c.loop-left-test.true)) in
       let value : c.word.result ≡ get_or d.words (c.loop-left.left - 1) 0 = c.word.ensures d is.here low in
-      let minute : word_minute c.word.result < 1440 = subst (λ (w : ℕ). word_minute w < 1440) (sym value) (word_low d is.day (c.loop-left.left - 1) low) in
       subst (Decides c.put_word.new.self) (ap (λ (w : ℕ). w ∷ drop c.loop-left.left d.words) value ∙ sym more)
-      (c.put_word.ensures (drop c.loop-left.left d.words) minute (c.loop-left.invariant.decides d is));
+      (c.put_word.ensures (drop c.loop-left.left d.words) (c.loop-left.invariant.decides d is));
 }
 
 pub returns : goal.returns

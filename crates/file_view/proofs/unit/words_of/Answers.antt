@@ -1,7 +1,6 @@
 use Rattle.std.proofs.Common.{◌≡◌, ◌∙◌, ℕ, ◌-◌, ◌<◌, List, [], ◌∷◌, length, drop, get_or, ap, sym, subst, arith}
 use Rattle.std.proofs.lemmas.List.{drop_more}
 use Rattle.std.proofs.Math.ListN.{drop_of_length-le}
-use Rattle.activity_codec.specs.Words.{word_minute}
 use Rattle.byteorder.specs.Endian.{big_number}
 use Rattle.file_view.specs.UnitShowing.{SlotsDecide}
 use Rattle.file_view.proofs.UnitDays.{stored_word, stored_words}
@@ -25,9 +24,8 @@ loop-left-preserved c = record {
       drop_more m.words (c.loop-left.left - 1) 0 low ∙ ap (λ (n : ℕ). get_or m.words (c.loop-left.left - 1) 0 ∷ drop n m.words) (omega (arith, c.loop-left-test.true)) in
       let value : c.read_u16-word.result ≡ get_or m.words (c.loop-left.left - 1) 0 =
       c.read_u16-word.ensures ∙ ap (λ (l : List ℕ). big_number 2 l) c.part.ensures.bytes ∙ stored_word c.args.b.now c.args.day m is (c.loop-left.left - 1) (omega (arith, low, count)) in
-      let minute : word_minute c.read_u16-word.result < 1440 = subst (λ (w : ℕ). word_minute w < 1440) (sym value) (is.is.words (c.loop-left.left - 1) 0 low).1 in
       subst (SlotsDecide c.put_word.new.self) (ap (λ (w : ℕ). w ∷ drop c.loop-left.left m.words) value ∙ sym more)
-      (c.put_word.ensures (drop c.loop-left.left m.words) minute (c.loop-left.invariant.decide m is));
+      (c.put_word.ensures (drop c.loop-left.left m.words) (c.loop-left.invariant.decide m is));
 }
 
 pub returns : goal.returns

@@ -5,12 +5,17 @@ use Rattle.view_text.specs.Exact.{both}
 use Rattle.file_view.specs.Histories.{line_minutes}
 use Rattle.slot_bars.specs.declared.seen.Seen.{Seen}
 use Rattle.slot_bars.specs.Seeing.{bars_of, slot_seen, state_in, meets_gap}
-use Rattle.slot_bars.specs.Runs.{is_run, is_plain}
-use Rattle.slot_bars.proofs.Runs.{viewed, row, slot_more, plain_minutes}
+use Rattle.file_view.specs.Runs.{is_run}
+use Rattle.file_view.proofs.Growing.{viewed, row}
+use Rattle.slot_bars.specs.Runs.{is_plain}
+use Rattle.slot_bars.proofs.Runs.{slot_more, plain_minutes, seen_self}
 use Rattle.slot_bars.proofs.bars.add_line.Goals as goal
 
-pub add_run-requires : goal.add_run-requires
-add_run-requires c =
+pub add_run-requires-clause-same : goal.add_run-requires-clause-same
+add_run-requires-clause-same c = seen_self c.seen_run.result.shown
+
+pub add_run-requires-clause-run : goal.add_run-requires-clause-run
+add_run-requires-clause-run c =
     let line = c.args.line in
     let plain : is_plain c.args.gaps.now c.args.slot c.args.line ≡ true = sym c.is_plain.ensures ∙ c.if-is_plain.true in
     ap (λ (r : Line Seen). is_run r.first r.last) c.seen_run.ensures

@@ -2,7 +2,7 @@ use Rattle.std.proofs.Common.{◌≡◌, ◌≤◌, ◌+◌, ◌-◌, ◌++◌, 
 use Rattle.view_model.specs.declared.Viewed.{Viewed}
 use Rattle.slot_bars.specs.declared.seen.Seen.{Seen}
 use Rattle.slot_bars.specs.Seeing.{bars_of, slot_seen}
-use Rattle.slot_bars.proofs.Runs.{row}
+use Rattle.file_view.proofs.Growing.{row}
 use Rattle.slot_bars.proofs.bars.add_line.Given as goal
 
 -- the bars with the minutes so far
