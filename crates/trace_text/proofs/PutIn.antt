@@ -68,7 +68,7 @@ all-few waiting ((n, Act action) ∷ written) = omega (arith, all-few (Some n) w
 pub ended-few : (written : List (ℕ × Item)) → length (items_of (ended written)) ≤ 2 * length written + 1
 ended-few written = all-few None written
 
-put_in-known : (form : Form) → IsKnown form (Run 1 0)
+pub put_in-known : (form : Form) → IsKnown form (Run 1 0)
 put_in-known Minutes = (refl, (omega arith, omega arith, omega arith))
 put_in-known Whole = (refl, (omega arith, omega arith, omega arith))
 

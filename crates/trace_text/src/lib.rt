@@ -4,6 +4,7 @@
 #![tactic(auto)]
 
 // text to trace
+mod coming;
 mod line;
 mod lines_trace;
 mod read;
@@ -15,6 +16,7 @@ mod drawing;
 mod drawn_laws;
 mod drawn_trace;
 
+pub use coming::{Came, Coming};
 pub use drawing::next_drawn;
 pub use drawn_laws::a_demonstration_has_its_seconds;
 pub use drawn_trace::{DAYS, FIRST_SECOND, PARTS, demo_trace};

@@ -60,16 +60,16 @@ fn trace_of(alloc: Global, text: &[u8], form: Form) -> Result<Trace, TraceFault>
 /// Takes the first line of a text: what is behind it.
 fn take_line<'a>(reading: &mut Reading, text: &'a [u8]) -> Result<&'a [u8], TraceFault>
     requires some { 0 < length text.now }
-    requires few { reading.old.lines < 2 ^ 32 - 1 }
+    requires few { reading.old.coming.lines < 2 ^ 32 - 1 }
     ensures ok { IfOk result (λ rest. (line : List ℕ) × (text_lines text.now ≡ line ∷ text_lines rest.now)
         × ((lines : List (List ℕ)) → HasRead lines reading.old → HasRead (lines ++ line ∷ []) reading.new)) }
     ensures fault { (lines : List (List ℕ)) → HasRead lines reading.old
-        → IfErr result (IsFaultOf reading.old.form (lines ++ text_lines text.now)) }
+        → IfErr result (IsFaultOf reading.old.coming.form (lines ++ text_lines text.now)) }
     ensures shorter { IfOk result (λ rest. length rest.now < length text.now) }
-    ensures form { reading.new.form ≡ reading.old.form }
-    ensures lines { OnOk result (reading.new.lines ≡ reading.old.lines + 1) }
+    ensures form { reading.new.coming.form ≡ reading.old.coming.form }
+    ensures lines { OnOk result (reading.new.coming.lines ≡ reading.old.coming.lines + 1) }
 {
-    if let Some(start) = reading.start {
+    if let Some(start) = reading.coming.start {
         if let Some((seconds, speed, rest)) = first_run(text) {
             reading.take_run(start, seconds, speed)?;
             return Ok(rest);

@@ -1,9 +1,15 @@
-use Rattle.std.proofs.Common.{◌≡◌, ◌∙◌, false, sym}
-use Rattle.trace_text.specs.Text.{counts}
-use Rattle.trace_text.proofs.LinesRead.{read-skip}
+use Rattle.std.proofs.lemmas.Result.{err_from_is_err_and}
 use Rattle.trace_text.proofs.reading.Reading.take.Goals as goal
 
-pub returns-then-not-is_counted-clause-ok : goal.returns-then-not-is_counted-clause-ok
-returns-then-not-is_counted-clause-ok c = λ lines is.
-    let skipped : counts c.args.line.now ≡ false = sym c.is_counted.ensures ∙ c.if-not-is_counted.true in
-    read-skip lines c.args.line.now c.args.self.now is skipped
+pub returns-in_err-came-clause-fault : goal.returns-in_err-came-clause-fault
+returns-in_err-came-clause-fault c = λ lines behind is.
+    let p = err_from_is_err_and c.from_residual.result c.from_residual.ensures.1 in
+    rw (p.1, p.2) (c.in_err-came.ensures.fault lines behind c.args.self.now.items is)
+
+pub returns-in_err-keep-clause-fault : goal.returns-in_err-keep-clause-fault
+returns-in_err-keep-clause-fault c = λ lines behind is.
+    let p = err_from_is_err_and c.from_residual-in_err-keep.result c.from_residual-in_err-keep.ensures.1 in
+    rw (p.1, p.2) tt
+
+pub returns-clause-ok : goal.returns-clause-ok
+returns-clause-ok c = λ lines is. rw c.in_ok-keep.ensures (c.in_ok-came.ensures.ok lines c.args.self.now.items is)
