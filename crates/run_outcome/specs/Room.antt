@@ -1,12 +1,12 @@
 -- How many lines a run can have (profile).
-use Rattle.std.specs.Prelude.{◌≡◌, ℕ, ◌+◌, ◌*◌, ◌/◌, Bool, true, false, if◌then◌else◌, List, [], length, count_by}
+use Rattle.std.specs.Prelude.{◌≡◌, ◌≤◌, ℕ, ◌+◌, ◌*◌, ◌/◌, Bool, true, false, if◌then◌else◌, List, [], length, count_by}
 use Rattle.trace_model.specs.declared.Action.{Action}
 use Rattle.trace_model.specs.declared.Action.TheVariants.{Select, Insert, Withdraw, Tear, Place, Manual}
 use Rattle.trace_model.specs.declared.Item.{Item}
 use Rattle.trace_model.specs.declared.Item.TheVariants.{Run, Off, Act}
 use Rattle.trace_model.specs.Trace.{total_seconds}
 use Rattle.run_outcome.specs.declared.outcome.Outcome.{Outcome}
-use Rattle.run_outcome.specs.declared.outcome.TheConstants.{MOST_OWED}
+use Rattle.run_outcome.specs.declared.outcome.TheConstants.{MOST_OWED, MOST_OWING, MOST_FALLEN, SLOTS}
 
 -- a line of seconds without power
 abbrev pub is_off : Item → Bool
@@ -75,3 +75,40 @@ pub record IsReserved (items : List Item) (o : Outcome) : Type 0 where
   pub breaks : o.breaks ≡ record { items = []; room = most_breaks items }
   pub refused : o.refused ≡ record { items = []; room = most_refused items }
   pub finds : o.finds ≡ record { items = []; room = most_finds items }
+
+-- ---- the room for one item more, of a run that is underway
+
+-- the minutes that so many seconds touch, at most
+abbrev pub more_minutes : (seconds : ℕ) → ℕ
+more_minutes seconds = seconds / 60 + 2
+
+-- each of them has one cut at most, and so has an `off` line
+abbrev pub more_cuts : (seconds : ℕ) → ℕ
+more_cuts seconds = more_minutes seconds + 1
+
+-- a card is torn out where it sits or is leaving, or where one of these actions puts it in
+abbrev pub more_breaks : (seconds actions : ℕ) → ℕ
+more_breaks seconds actions = more_cuts seconds + MOST_FALLEN + actions
+
+-- a power-on finds two cards at most, an insertion one; and power may be due as the item begins
+abbrev pub more_finds : (seconds actions : ℕ) → ℕ
+more_finds seconds actions = 2 * more_cuts seconds + SLOTS + actions
+
+-- each minute is acknowledged once by each of the three devices, also those that wait to be kept; and a card that is
+-- found acknowledges what it was owed
+abbrev pub more_marks : (seconds actions : ℕ) → ℕ
+more_marks seconds actions = 3 * (more_minutes seconds + MOST_OWING) + MOST_OWED * more_finds seconds actions
+
+-- ROOM IS FREE for so many seconds more, where so many actions wait for the first of them
+pub record HasFree (seconds actions : ℕ) (o : Outcome) : Type 0 where
+  pub marks : length o.marks.items + more_marks seconds actions ≤ o.marks.room
+  pub breaks : length o.breaks.items + more_breaks seconds actions ≤ o.breaks.room
+  pub refused : length o.refused.items + actions ≤ o.refused.room
+  pub finds : length o.finds.items + more_finds seconds actions ≤ o.finds.room
+
+-- AN OUTCOME HAS THE LINES OF ANOTHER, and no less room
+pub record HasLinesOf (before after : Outcome) : Type 0 where
+  pub marks : (after.marks.items ≡ before.marks.items) × (before.marks.room ≤ after.marks.room)
+  pub breaks : (after.breaks.items ≡ before.breaks.items) × (before.breaks.room ≤ after.breaks.room)
+  pub refused : (after.refused.items ≡ before.refused.items) × (before.refused.room ≤ after.refused.room)
+  pub finds : (after.finds.items ≡ before.finds.items) × (before.finds.room ≤ after.finds.room)

@@ -1,5 +1,6 @@
 //! A list of lines of an outcome, which never grows beyond the room that was taken for it.
-ghost use Rattle.std.specs.Prelude.{◌≡◌, ◌<◌, ◌≤◌, ◌++◌, ◌∷◌, [], ◌==◌, IfOk, length, map, slice_get, Some};
+ghost use Rattle.std.specs.Prelude.{◌≡◌, ◌+◌, ◌<◌, ◌≤◌, ◌++◌, ◌∷◌, [], ◌==◌, IfOk, OnOk, OnErr, IsOk, length, map};
+ghost use Rattle.std.specs.Prelude.{slice_get, Some};
 
 use log_model::Break;
 use std::alloc::Global;
@@ -47,6 +48,28 @@ impl<T: Copy> Lines<T> {
             Ok(list) => Ok(Lines { list, room }),
             Err(_) => Err(Memory),
         }
+    }
+
+    /// Takes room for so many more lines, where there is less. The lines stay, whatever the answer.
+    ///
+    /// # Errors
+    ///
+    /// `Memory` where there is none.
+    pub fn make_room(&mut self, more: usize) -> Result<(), Memory>
+        ensures items { self.new.items ≡ self.old.items }
+        ensures room { OnOk result (length self.old.items + more ≤ self.new.room) }
+        ensures grows { self.old.room ≤ self.new.room }
+        ensures same { OnErr result (self.new ≡ self.old) }
+        ensures enough { length self.old.items + more ≤ self.old.room → IsOk result }
+    {
+        if self.room - self.list.len() >= more {
+            return Ok(());
+        }
+        if self.list.reserve(more).is_err() {
+            return Err(Memory);
+        }
+        self.room = self.list.capacity();
+        Ok(())
     }
 
     /// How many lines it has.

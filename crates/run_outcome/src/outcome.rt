@@ -1,8 +1,9 @@
 //! What a run tells of itself.
-ghost use Rattle.std.specs.Prelude.{◌≡◌, ◌+◌, ◌*◌, ◌≤◌, [], IfOk};
+ghost use Rattle.std.specs.Prelude.{◌≡◌, ◌+◌, ◌*◌, ◌≤◌, [], IfOk, OnOk};
 ghost use Rattle.trace_model.specs.Trace.{item_seconds, total_seconds};
 ghost use Rattle.trace_text.specs.Trace.{IsWellFormed};
-ghost use Rattle.run_outcome.specs.Room.{offs, is_off, insertions, is_insertion, IsReserved};
+ghost use Rattle.trace_text.specs.Line.{InRange};
+ghost use Rattle.run_outcome.specs.Room.{offs, is_off, insertions, is_insertion, IsReserved, HasFree, HasLinesOf};
 
 use crate::lines::Lines;
 use log_model::{Break, Find, Mark, Refused};
@@ -12,6 +13,15 @@ use trace_text::{Action, Item, Items, Trace};
 
 /// How many entries may be owed to a card at most.
 pub const MOST_OWED: usize = 4;
+
+/// How many minutes of a run may wait to be kept at most.
+pub const MOST_OWING: usize = 3;
+
+/// How many cards may be torn out at most that sit in a slot or are leaving one.
+pub const MOST_FALLEN: usize = 4;
+
+/// How many slots there are: a power-on finds a card in each at most.
+pub const SLOTS: usize = 2;
 
 /// The lines of a run, each list in order of time: what the devices have acknowledged, where power was lost or a card
 /// torn out, which actions were refused, and what insertions found.
@@ -67,6 +77,28 @@ impl Outcome {
             finds,
         })
     }
+
+    /// Takes room for all that a run that is underway can have of one item more, where so many actions wait for their
+    /// second. The lines stay, whatever the answer.
+    ///
+    /// # Errors
+    ///
+    /// `Memory` where there is none.
+    pub fn make_room(&mut self, item: Item, waiting: usize) -> Result<(), Memory>
+        requires item { InRange item }
+        ensures lines { HasLinesOf self.old self.new }
+        ensures free { OnOk result (HasFree (item_seconds item) waiting self.new) }
+    {
+        let minutes = item_seconds(item) / 60 + 2;
+        let cuts = minutes + 1;
+        let breaks = room_for(cuts + MOST_FALLEN, waiting)?;
+        let finds = room_for(2 * cuts + SLOTS, waiting)?;
+        let marks = marks_for(minutes + MOST_OWING, finds)?;
+        self.breaks.make_room(breaks)?;
+        self.finds.make_room(finds)?;
+        self.marks.make_room(marks)?;
+        self.refused.make_room(waiting)
+    }
 }
 
 // Room for so many lines and so many more, where a list can have as many.
@@ -81,7 +113,7 @@ fn room_for(some: usize, more: usize) -> Result<usize, Memory>
 
 // Room for the marks of so many minutes, and of what was owed to so many cards that are found.
 fn marks_for(minutes: usize, finds: usize) -> Result<usize, Memory>
-    requires few { minutes ≤ 576002 }
+    requires few { minutes ≤ 576005 }
     ensures { IfOk result (λ room. room ≡ 3 * minutes + MOST_OWED * finds) }
 {
     match finds.checked_mul(MOST_OWED) {
