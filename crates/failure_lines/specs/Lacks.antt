@@ -3,8 +3,8 @@ use Rattle.std.specs.Prelude.{ℕ, Option, Some, None, List, [], ◌++◌, codes
 use Rattle.run_model.specs.Names.{device_name}
 use Rattle.run_model.specs.declared.Device.{Device}
 use Rattle.run_model.specs.declared.Device.TheVariants.{Unit as OfUnit, CardA, CardB}
-use Rattle.tach_media.specs.declared.file.Missing.{Missing}
-use Rattle.tach_media.specs.declared.file.Missing.TheVariants.{Locks, SynchronisedFolders}
+use Rattle.sector_medium.specs.declared.file.Missing.{Missing}
+use Rattle.sector_medium.specs.declared.file.Missing.TheVariants.{Locks, SynchronisedFolders}
 
 -- what is missing
 abbrev pub missing_name : Missing → List ℕ

@@ -8,7 +8,8 @@ ghost use Rattle.failure_lines.specs.Lacks.{missing_name, missing_line, missing_
 use crate::timed::{MOST, add};
 use arrayvec::ArrayVec;
 use run_model::Device;
-use tach_media::{Failed, Missing, Sink, put_all};
+use sector_medium::Missing;
+use tach_media::{Failed, Sink, put_all};
 
 /// Writes one line of what the file system lacks: of the unit, else of the first card, else of the second one; nothing
 /// where none of them lacks anything.

@@ -3,3 +3,4 @@ pub mod Lifts
 pub mod Moves
 pub mod Known
 pub mod Laying
+pub mod Untouched

@@ -2,6 +2,7 @@
 #![tactic(auto)]
 
 mod disk;
+mod file;
 mod found;
 mod over;
 mod record;
@@ -9,6 +10,7 @@ mod redo_medium;
 mod steps;
 
 pub use disk::Disk;
+pub use file::{FileDisk, Missing};
 use found::{Found, Redo};
 use over::read_over;
 use record::seen;

@@ -1,6 +1,5 @@
 pub mod Chip
 pub mod Counting
-pub mod Files
 pub mod Log
 pub mod LogLaws
 pub mod Medium

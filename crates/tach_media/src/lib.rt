@@ -1,5 +1,5 @@
 //! The outside of the tachograph: sources and sinks of bytes, media and chips that a stop may cut off at any
-//! moment, and what stands for each of them in memory, in a file, or where there is none.
+//! moment, and what stands for each of them in memory, or where there is none.
 //!
 //! Writes that are known before the first of them: a plan of pieces, each a place and its bytes, and the one call that
 //! writes it.
@@ -19,7 +19,6 @@ mod transfer;
 
 // media
 mod absent;
-mod file;
 mod lent;
 mod medium;
 mod mem_medium;
@@ -36,9 +35,8 @@ mod plan;
 pub use absent::AbsentMedium;
 pub use absent_chip::AbsentChip;
 pub use chip::{Answer, Chip};
-use counts::Counts;
+pub use counts::Counts;
 pub use fault::{Failed, Memory};
-pub use file::{FileMedium, Missing};
 pub use log::Left;
 use log::Log;
 pub use medium::Medium;

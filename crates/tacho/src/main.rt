@@ -3,6 +3,9 @@
 //! turned away and for each call that failed, and the fault's line.
 #![tactic(auto)]
 
+ghost use Rattle.std.specs.Prelude.{◌<◌, ◌+◌, ◌^◌};
+ghost use Rattle.sector_medium.specs.Recovered.{HasRoom};
+ghost use Rattle.sector_medium.specs.Redo.{record_place};
 ghost use Rattle.tach_media.specs.Medium.{IsUntouched};
 
 mod alone;
@@ -39,11 +42,12 @@ use failure_lines::{put_failures, put_missing, put_refusals, put_turned_away};
 use forms::{Form, form_of};
 use packet_service::FileSink;
 use run_model::Device;
+use sector_medium::{Disk, FileDisk, RedoMedium};
 use std::fs::File;
 use std::io::ErrorKind;
 use std::process::ExitCode;
 use std::{env, fs, io, str};
-use tach_media::{FileMedium, Medium, StdSink, StdSource};
+use tach_media::{Medium, StdSink, StdSource};
 use tacho_types::{FullCardNumber, write_card_number};
 use top::tacho;
 use unit_model::layout::IMAGE_SIZE;
@@ -99,21 +103,37 @@ fn access_of(words: &Words) -> Access {
     }
 }
 
-/// A device in a file of the working folder.
+/// The file of a device in the working folder, as a disk.
+fn disk<'a>(
+    rt: &'a HostRuntime,
+    path: &'a str,
+    size: u32,
+    access: Access,
+) -> FileDisk<'a, HostRuntime>
+    requires { record_place size + 16 < 2 ^ 32 }
+    ensures untouched { IsUntouched (record_place size + 16) (⟦<FileDisk<'a, HostRuntime> as Disk>⟧.state result) }
+    ensures room { HasRoom size (⟦<FileDisk<'a, HostRuntime> as Disk>⟧.state result) }
+{
+    match access {
+        Access::Lasting => FileDisk::new(rt, path, size),
+        Access::Passing => FileDisk::without_waiting(rt, path, size),
+        Access::Reading => FileDisk::for_reading(rt, path, size),
+        Access::Looking => FileDisk::for_reading(rt, path_there(rt, path), size),
+    }
+}
+
+/// A device in a file of the working folder: the file keeps sectors of 512 bytes whole, and the device each write of at
+/// most four bytes.
 fn file<'a>(
     rt: &'a HostRuntime,
     path: &'a str,
     size: u32,
     access: Access,
-) -> FileMedium<'a, HostRuntime>
-    ensures { IsUntouched size (⟦<FileMedium<'a, HostRuntime> as Medium>⟧.state result) }
+) -> RedoMedium<FileDisk<'a, HostRuntime>>
+    requires { record_place size + 16 < 2 ^ 32 }
+    ensures { IsUntouched size (⟦<RedoMedium<FileDisk<'a, HostRuntime>> as Medium>⟧.state result) }
 {
-    match access {
-        Access::Lasting => FileMedium::new(rt, path, size),
-        Access::Passing => FileMedium::without_waiting(rt, path, size),
-        Access::Reading => FileMedium::for_reading(rt, path, size),
-        Access::Looking => FileMedium::for_reading(rt, path_there(rt, path), size),
-    }
+    RedoMedium::new(disk(rt, path, size, access), size)
 }
 
 /// The path of a file that is there and has bytes; of any other one that no file has, so that none is made.
@@ -150,9 +170,9 @@ fn run(rt: &HostRuntime) -> Ended {
             );
             let _ = put_missing(
                 &mut StdSink::new(rt.stderr()),
-                unit.missing(),
-                card_a.medium().missing(),
-                card_b.medium().missing(),
+                unit.disk().missing(),
+                card_a.medium().disk().missing(),
+                card_b.medium().disk().missing(),
             );
             ended
         }

@@ -1,10 +1,11 @@
+use sector_medium::{FileDisk, Missing, RedoMedium};
 use std::fs;
 use std::fs::File;
 use std::os::fd::AsRawFd;
 use std::os::unix::fs::symlink;
 use std::process::Abort;
 use std::test::Fail;
-use tach_media::{Failed, FileMedium, Medium, Missing};
+use tach_media::{Failed, Medium};
 
 /// Four bytes of a medium.
 fn four<M: Medium>(medium: &mut M, place: u32) -> Result<[u8; 4], Failed> {
@@ -28,7 +29,7 @@ fn does_not_read<M: Medium>(rt: &impl Abort, medium: &mut M, place: u32) {
 }
 
 /// Bytes are written at a place of a medium.
-fn write(medium: &mut FileMedium<'_, HostRuntime>, place: u32, bytes: &[u8]) -> Result<(), Failed> {
+fn write(medium: &mut RedoMedium<FileDisk<'_, HostRuntime>>, place: u32, bytes: &[u8]) -> Result<(), Failed> {
     if place > 60 || bytes.len() > 4 || medium.size() < place + 4 {
         return Err(Failed);
     }
@@ -36,12 +37,12 @@ fn write(medium: &mut FileMedium<'_, HostRuntime>, place: u32, bytes: &[u8]) -> 
 }
 
 /// Bytes can be written at a place of a medium.
-fn writes(rt: &impl Abort, medium: &mut FileMedium<'_, HostRuntime>, place: u32, bytes: &[u8]) {
+fn writes(rt: &impl Abort, medium: &mut RedoMedium<FileDisk<'_, HostRuntime>>, place: u32, bytes: &[u8]) {
     assert_eq!(rt; write(medium, place, bytes), Ok(()));
 }
 
 /// Four bytes cannot be written at the front of a medium.
-fn does_not_write(rt: &impl Abort, medium: &mut FileMedium<'_, HostRuntime>, bytes: &[u8; 4]) {
+fn does_not_write(rt: &impl Abort, medium: &mut RedoMedium<FileDisk<'_, HostRuntime>>, bytes: &[u8; 4]) {
     assert!(rt; medium.size() >= 8);
     assert_eq!(rt; write(medium, 0, bytes), Err(Failed));
 }
@@ -94,7 +95,7 @@ fn link(files: &HostRuntime, to: &str, path: &str) -> bool {
 
 #[test]
 fn a_file_is_made_written_and_read(rt: HostRuntime) {
-    let mut made = FileMedium::new(&rt, "tach_media_made", 64);
+    let mut made = RedoMedium::new(FileDisk::new(&rt, "tach_media_made", 64), 64);
     assert!(rt; is_not_there(&rt, "tach_media_made"));
     writes(&rt, &mut made, 10, b"abc");
     reads(&rt, &mut made, 9, b"\0abc");
@@ -104,7 +105,7 @@ fn a_file_is_made_written_and_read(rt: HostRuntime) {
 
 #[test]
 fn a_file_of_no_folder(rt: HostRuntime) {
-    let mut nowhere = FileMedium::new(&rt, "no_such_folder/file", 64);
+    let mut nowhere = RedoMedium::new(FileDisk::new(&rt, "no_such_folder/file", 64), 64);
     does_not_read(&rt, &mut nowhere, 0);
     does_not_revive(&rt, &mut nowhere);
 }
@@ -112,7 +113,7 @@ fn a_file_of_no_folder(rt: HostRuntime) {
 #[test]
 fn of_a_longer_file_the_front(rt: HostRuntime) {
     assert!(rt; put_file(&rt, "tach_media_long", b"0123456789"));
-    let mut front = FileMedium::new(&rt, "tach_media_long", 8);
+    let mut front = RedoMedium::new(FileDisk::new(&rt, "tach_media_long", 8), 8);
     writes(&rt, &mut front, 4, b"abcd");
     reads(&rt, &mut front, 3, b"3abc");
     assert!(rt; holds(&rt, "tach_media_long", b"0123abcd89"));
@@ -122,7 +123,7 @@ fn of_a_longer_file_the_front(rt: HostRuntime) {
 #[test]
 fn a_short_file_grows_by_a_write(rt: HostRuntime) {
     assert!(rt; put_file(&rt, "tach_media_short", b"01234567"));
-    let mut medium = FileMedium::new(&rt, "tach_media_short", 16);
+    let mut medium = RedoMedium::new(FileDisk::new(&rt, "tach_media_short", 16), 16);
     fails_behind_the_end(&rt, &mut medium);
     does_not_read(&rt, &mut medium, 0);
     revives(&rt, &mut medium);
@@ -141,12 +142,12 @@ fn fails_behind_the_end<M: Medium>(rt: &impl Abort, medium: &mut M) {
 /// While a medium has its file, another of that file does not work.
 fn has_it_alone(
     rt: &impl Abort,
-    first: &mut FileMedium<'_, HostRuntime>,
-    second: &mut FileMedium<'_, HostRuntime>,
+    first: &mut RedoMedium<FileDisk<'_, HostRuntime>>,
+    second: &mut RedoMedium<FileDisk<'_, HostRuntime>>,
 ) {
     writes(rt, first, 0, b"abcd");
     does_not_read(rt, second, 0);
-    assert_eq!(rt; second.missing(), None);
+    assert_eq!(rt; second.disk().missing(), None);
     does_not_revive(rt, second);
     does_not_write(rt, second, b"efgh");
     reads(rt, first, 0, b"abcd");
@@ -155,11 +156,11 @@ fn has_it_alone(
 #[test]
 fn a_file_that_another_has_locked(rt: HostRuntime) {
     {
-        let mut first = FileMedium::new(&rt, "tach_media_locked", 8);
-        let mut second = FileMedium::new(&rt, "tach_media_locked", 8);
+        let mut first = RedoMedium::new(FileDisk::new(&rt, "tach_media_locked", 8), 8);
+        let mut second = RedoMedium::new(FileDisk::new(&rt, "tach_media_locked", 8), 8);
         has_it_alone(&rt, &mut first, &mut second);
     }
-    let mut later = FileMedium::new(&rt, "tach_media_locked", 8);
+    let mut later = RedoMedium::new(FileDisk::new(&rt, "tach_media_locked", 8), 8);
     writes(&rt, &mut later, 4, b"efgh");
     assert!(rt; remove(&rt, "tach_media_locked"));
 }
@@ -168,7 +169,7 @@ fn a_file_that_another_has_locked(rt: HostRuntime) {
 fn a_link_to_a_file(rt: HostRuntime) {
     assert!(rt; put_file(&rt, "tach_media_target", b"01234567"));
     assert!(rt; link(&rt, "tach_media_target", "tach_media_link"));
-    let mut through = FileMedium::new(&rt, "tach_media_link", 8);
+    let mut through = RedoMedium::new(FileDisk::new(&rt, "tach_media_link", 8), 8);
     writes(&rt, &mut through, 0, b"abcd");
     assert!(rt; holds(&rt, "tach_media_target", b"abcd4567"));
     assert!(rt; remove(&rt, "tach_media_link"));
@@ -178,7 +179,7 @@ fn a_link_to_a_file(rt: HostRuntime) {
 #[test]
 fn a_link_to_no_file(rt: HostRuntime) {
     assert!(rt; link(&rt, "tach_media_nothing", "tach_media_dangling"));
-    let mut dangling = FileMedium::new(&rt, "tach_media_dangling", 8);
+    let mut dangling = RedoMedium::new(FileDisk::new(&rt, "tach_media_dangling", 8), 8);
     does_not_read(&rt, &mut dangling, 0);
     does_not_revive(&rt, &mut dangling);
     assert!(rt; is_not_there(&rt, "tach_media_nothing"));
@@ -187,7 +188,7 @@ fn a_link_to_no_file(rt: HostRuntime) {
 
 #[test]
 fn a_folder_is_no_medium(rt: HostRuntime) {
-    let mut folder = FileMedium::new(&rt, ".", 8);
+    let mut folder = RedoMedium::new(FileDisk::new(&rt, ".", 8), 8);
     does_not_read(&rt, &mut folder, 0);
     does_not_revive(&rt, &mut folder);
 }
@@ -195,10 +196,10 @@ fn a_folder_is_no_medium(rt: HostRuntime) {
 /// A program that runs may be read, and not written.
 #[test]
 fn a_file_that_may_only_be_read(rt: HostRuntime) {
-    let mut program = FileMedium::new(&rt, "/proc/self/exe", 8);
+    let mut program = RedoMedium::new(FileDisk::new(&rt, "/proc/self/exe", 8), 8);
     does_not_read(&rt, &mut program, 0);
     does_not_revive(&rt, &mut program);
-    let mut read = FileMedium::for_reading(&rt, "/proc/self/exe", 8);
+    let mut read = RedoMedium::new(FileDisk::for_reading(&rt, "/proc/self/exe", 8), 8);
     reads(&rt, &mut read, 0, b"\x7fELF");
     does_not_write(&rt, &mut read, b"abcd");
     revives(&rt, &mut read);
@@ -210,17 +211,17 @@ fn a_file_that_may_only_be_read(rt: HostRuntime) {
 fn a_file_that_others_read_too(rt: HostRuntime) {
     assert!(rt; put_file(&rt, "tach_media_read", b"01234567"));
     {
-        let mut first = FileMedium::for_reading(&rt, "tach_media_read", 8);
-        let mut second = FileMedium::for_reading(&rt, "tach_media_read", 8);
-        let mut writer = FileMedium::new(&rt, "tach_media_read", 8);
+        let mut first = RedoMedium::new(FileDisk::for_reading(&rt, "tach_media_read", 8), 8);
+        let mut second = RedoMedium::new(FileDisk::for_reading(&rt, "tach_media_read", 8), 8);
+        let mut writer = RedoMedium::new(FileDisk::new(&rt, "tach_media_read", 8), 8);
         reads(&rt, &mut first, 0, b"0123");
         reads(&rt, &mut second, 4, b"4567");
         does_not_write(&rt, &mut second, b"abcd");
         does_not_read(&rt, &mut writer, 0);
     }
     {
-        let mut writer = FileMedium::new(&rt, "tach_media_read", 8);
-        let mut reader = FileMedium::for_reading(&rt, "tach_media_read", 8);
+        let mut writer = RedoMedium::new(FileDisk::new(&rt, "tach_media_read", 8), 8);
+        let mut reader = RedoMedium::new(FileDisk::for_reading(&rt, "tach_media_read", 8), 8);
         reads(&rt, &mut writer, 0, b"0123");
         does_not_read(&rt, &mut reader, 0);
     }
@@ -232,7 +233,7 @@ fn a_file_that_others_read_too(rt: HostRuntime) {
 fn a_file_without_a_byte_is_made(rt: HostRuntime) {
     assert!(rt; put_file(&rt, "tach_media_empty", b""));
     {
-        let mut made = FileMedium::new(&rt, "tach_media_empty", 64);
+        let mut made = RedoMedium::new(FileDisk::new(&rt, "tach_media_empty", 64), 64);
         reads(&rt, &mut made, 60, &[0; 4]);
         writes(&rt, &mut made, 0, b"abcd");
     }
@@ -245,27 +246,27 @@ fn a_file_without_a_byte_is_made(rt: HostRuntime) {
 fn a_file_is_made_for_reading(rt: HostRuntime) {
     assert!(rt; put_file(&rt, "tach_media_bare", b""));
     {
-        let mut first = FileMedium::for_reading(&rt, "tach_media_bare", 64);
-        let mut second = FileMedium::for_reading(&rt, "tach_media_bare", 64);
+        let mut first = RedoMedium::new(FileDisk::for_reading(&rt, "tach_media_bare", 64), 64);
+        let mut second = RedoMedium::new(FileDisk::for_reading(&rt, "tach_media_bare", 64), 64);
         reads(&rt, &mut first, 60, &[0; 4]);
         reads(&rt, &mut second, 60, &[0; 4]);
         does_not_write(&rt, &mut first, b"abcd");
     }
     assert!(rt; remove(&rt, "tach_media_bare"));
-    let mut missing = FileMedium::for_reading(&rt, "tach_media_bare", 64);
+    let mut missing = RedoMedium::new(FileDisk::for_reading(&rt, "tach_media_bare", 64), 64);
     reads(&rt, &mut missing, 60, &[0; 4]);
     assert!(rt; is_long(&rt, "tach_media_bare", 64));
     assert!(rt; remove(&rt, "tach_media_bare"));
 }
 
 /// A medium whose file's folder cannot be synchronised tells that.
-fn lacks_its_folder(rt: &impl Abort, medium: &mut FileMedium<'_, HostRuntime>) {
-    assert_eq!(rt; medium.missing(), None);
+fn lacks_its_folder(rt: &impl Abort, medium: &mut RedoMedium<FileDisk<'_, HostRuntime>>) {
+    assert_eq!(rt; medium.disk().missing(), None);
     does_not_read(rt, medium, 0);
-    assert_eq!(rt; medium.missing(), Some(Missing::SynchronisedFolders));
+    assert_eq!(rt; medium.disk().missing(), Some(Missing::SynchronisedFolders));
     does_not_write(rt, medium, b"abcd");
     does_not_revive(rt, medium);
-    assert_eq!(rt; medium.missing(), Some(Missing::SynchronisedFolders));
+    assert_eq!(rt; medium.disk().missing(), Some(Missing::SynchronisedFolders));
 }
 
 /// By the folder of the files that a process has open each can be opened anew, and no name there stands on a disk.
@@ -274,12 +275,12 @@ fn a_folder_that_cannot_be_synchronised(rt: HostRuntime) -> Result<(), Fail> {
     let kept = File::create(&rt, "tach_media_open")?;
     let number = kept.as_raw_fd();
     let path = format!(in rt.alloc(); "/proc/self/fd/{number}")?;
-    let mut medium = FileMedium::new(&rt, path.as_str(), 8);
+    let mut medium = RedoMedium::new(FileDisk::new(&rt, path.as_str(), 8), 8);
     lacks_its_folder(&rt, &mut medium);
     assert!(rt; is_long(&rt, "tach_media_open", 0));
-    let mut made = FileMedium::new(&rt, "tach_media_open", 8);
+    let mut made = RedoMedium::new(FileDisk::new(&rt, "tach_media_open", 8), 8);
     reads(&rt, &mut made, 4, &[0; 4]);
-    assert_eq!(rt; made.missing(), None);
+    assert_eq!(rt; made.disk().missing(), None);
     assert!(rt; remove(&rt, "tach_media_open"));
     Ok(())
 }
@@ -288,15 +289,52 @@ fn a_folder_that_cannot_be_synchronised(rt: HostRuntime) -> Result<(), Fail> {
 #[test]
 fn a_write_that_cannot_be_synchronised(rt: HostRuntime) {
     {
-        let mut shown = FileMedium::without_waiting(&rt, "/proc/self/coredump_filter", 8);
+        let mut shown = RedoMedium::new(FileDisk::without_waiting(&rt, "/proc/self/coredump_filter", 8), 8);
         writes(&rt, &mut shown, 0, b"0x33");
         revives(&rt, &mut shown);
     }
-    let mut filter = FileMedium::new(&rt, "/proc/self/coredump_filter", 8);
+    let mut filter = RedoMedium::new(FileDisk::new(&rt, "/proc/self/coredump_filter", 8), 8);
     reads(&rt, &mut filter, 0, b"0000");
     reads(&rt, &mut filter, 4, b"0033");
     does_not_write(&rt, &mut filter, b"0x33");
     does_not_revive(&rt, &mut filter);
     does_not_read(&rt, &mut filter, 0);
     assert_eq!(rt; filter.clock(), 1);
+}
+
+/// Four bytes are written at a place of a memory of 600 bytes in a file.
+fn write_of_600(
+    medium: &mut RedoMedium<FileDisk<'_, HostRuntime>>,
+    place: u32,
+    bytes: &[u8; 4],
+) -> Result<(), Failed> {
+    if place > 596 || medium.size() != 600 {
+        return Err(Failed);
+    }
+    medium.write_at(place, bytes)
+}
+
+/// Four bytes of a memory of 600 bytes in a file.
+fn four_of_600<M: Medium>(medium: &mut M, place: u32) -> Result<[u8; 4], Failed> {
+    let mut out = [9; 4];
+    if place > 596 || medium.size() != 600 {
+        return Err(Failed);
+    }
+    medium.read_at(place, &mut out)?;
+    Ok(out)
+}
+
+/// A write inside a sector leaves a file as long as it was. One over a border of two sectors goes by a record behind
+/// the front, whose gate is shut then.
+#[test]
+fn a_write_over_a_border(rt: HostRuntime) {
+    let mut medium = RedoMedium::new(FileDisk::new(&rt, "tach_media_border", 600), 600);
+    assert_eq!(rt; write_of_600(&mut medium, 508, b"abcd"), Ok(()));
+    assert!(rt; is_long(&rt, "tach_media_border", 600));
+    assert_eq!(rt; write_of_600(&mut medium, 510, b"efgh"), Ok(()));
+    assert_eq!(rt; four_of_600(&mut medium, 508), Ok(*b"abef"));
+    assert_eq!(rt; four_of_600(&mut medium, 512), Ok(*b"gh\0\0"));
+    assert_eq!(rt; medium.clock(), 2);
+    assert!(rt; is_long(&rt, "tach_media_border", 1040));
+    assert!(rt; remove(&rt, "tach_media_border"));
 }

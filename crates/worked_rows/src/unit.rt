@@ -19,9 +19,10 @@ mod upgrades;
 
 use crate::unit::keeping::KEPT;
 use crate::unit::stops::{show_mends, show_stops};
+use sector_medium::{FileDisk, RedoMedium};
 use std::alloc::Global;
 use std::io::{self, Print, Write};
-use tach_media::{FileMedium, Left, Medium, MemMedium, Memory, Stop};
+use tach_media::{Left, Medium, MemMedium, Memory, Stop};
 use unit_minutes::{Journal, UnitFault};
 use unit_model::layout::{IMAGE_SIZE, RULED_VERSION};
 use worked_media::{Room, image, unit_with};
@@ -161,7 +162,8 @@ fn unit(alloc: Global, image: Vec<u8>, stops: Vec<Stop>) -> Result<MemMedium, Me
 
 /// What the load of `unit.img` answers.
 pub fn show_file(rt: &HostRuntime) -> io::Result<()> {
-    show(rt, &mut FileMedium::new(rt, "unit.img", IMAGE_SIZE))
+    let disk = FileDisk::new(rt, "unit.img", IMAGE_SIZE);
+    show(rt, &mut RedoMedium::new(disk, IMAGE_SIZE))
 }
 
 fn show_small(rt: &HostRuntime) -> io::Result<()> {

@@ -1,13 +1,17 @@
-//! A file of the file system as a medium.
-ghost use Rattle.std.specs.Prelude.{◌≡◌, None, true, false, is_some};
-ghost use Rattle.tach_media.specs.Files.{missing_in, unlocked};
+//! A file of the file system as a disk.
+ghost use Rattle.std.specs.Prelude.{◌≡◌, ◌<◌, ◌≤◌, ◌+◌, ◌^◌, None, true, false, is_some};
+ghost use Rattle.sector_medium.specs.Files.{missing_in, unlocked};
+ghost use Rattle.sector_medium.specs.Recovered.{HasRoom};
+ghost use Rattle.sector_medium.specs.Redo.{record_place};
 ghost use Rattle.tach_media.specs.Medium.{IsUntouched};
 
-use crate::{Counts, Failed, Medium};
+use crate::Disk;
+use crate::record::{RECORD_SIZE, place_behind};
 use std::fs;
 use std::fs::{File, Files, OpenFile, OpenOptions, TryLockError};
 use std::io::ErrorKind;
 use std::os::unix::fs::{FileExt, FileTypeExt, MetadataExt};
+use tach_media::{Counts, Failed};
 
 // What a file is asked for.
 #[derive(Clone, Copy)]
@@ -36,7 +40,7 @@ impl Access {
     }
 }
 
-/// What a file system lacks that a medium asks of it.
+/// What a file system lacks that a disk asks of it.
 #[derive(Clone, Copy, Debug, PartialEq, Eq)]
 pub enum Missing {
     /// Its files can't be locked, so that two programs could write one file at once.
@@ -54,7 +58,7 @@ enum Unreached {
     Lacking(Missing),
 }
 
-// The file under a medium.
+// The file under a disk.
 #[derive(Drop)]
 enum Backing {
     // No call has asked for it yet.
@@ -68,72 +72,84 @@ enum Backing {
     Lacking(Missing),
 }
 
-/// A file, as a medium of a fixed size: of a longer file only the front, of a shorter one a read past its end is a
-/// fault.
+/// A file, as a disk of a fixed size: a front of so many bytes, and the record behind it. Of a longer file it is that
+/// part; of one that is shorter than its front a read past its end is a fault, and behind the front what the file does
+/// not have reads as zeros, so that a file without a record keeps its length.
 ///
 /// The first call opens the file, and makes it, as zeros, where it is missing or has no byte, as a making that was
 /// stopped leaves it. From then on it is locked; where another program has locked it, every call fails. Every write
 /// stands on the disk before `Ok`, and so does the name of a file that was made. Where the file system lacks what that
 /// takes every call fails too, and `missing` tells what. It tells nothing of its content.
 #[derive(Drop)]
-pub struct FileMedium<'a, R: Files<File = File>> {
+pub struct FileDisk<'a, R: Files<File = File>> {
     files: &'a R,
     path: &'a str,
     backing: Backing,
     access: Access,
+    front: u32,
     size: u32,
+    // how many groups of writes were ended
     clock: u64,
     counts: Counts,
     ghost broken: { is_some (missing_in backing) ≡ true → counts.works ≡ false },
 }
 
-impl<'a, R: Files<File = File>> FileMedium<'a, R> {
-    /// A medium of so many bytes in the file at this path.
-    pub fn new(files: &'a R, path: &'a str, size: u32) -> FileMedium<'a, R>
-        ensures untouched { IsUntouched size (⟦<FileMedium<'a, R> as Medium>⟧.state result) }
+impl<'a, R: Files<File = File>> FileDisk<'a, R> {
+    /// A front of so many bytes, and room for its record, in the file at this path.
+    pub fn new(files: &'a R, path: &'a str, front: u32) -> FileDisk<'a, R>
+        requires { record_place front + 16 < 2 ^ 32 }
+        ensures untouched { IsUntouched (record_place front + 16) (⟦<FileDisk<'a, R> as Disk>⟧.state result) }
+        ensures room { HasRoom front (⟦<FileDisk<'a, R> as Disk>⟧.state result) }
         ensures missing { missing_in result.backing ≡ None }
     {
-        FileMedium::asking(files, path, size, Access::Lasting)
+        FileDisk::asking(files, path, front, Access::Lasting)
     }
 
     /// The same for what need not outlive a power cut, as a demonstration: no write waits for the disk.
-    pub fn without_waiting(files: &'a R, path: &'a str, size: u32) -> FileMedium<'a, R>
-        ensures untouched { IsUntouched size (⟦<FileMedium<'a, R> as Medium>⟧.state result) }
+    pub fn without_waiting(files: &'a R, path: &'a str, front: u32) -> FileDisk<'a, R>
+        requires { record_place front + 16 < 2 ^ 32 }
+        ensures untouched { IsUntouched (record_place front + 16) (⟦<FileDisk<'a, R> as Disk>⟧.state result) }
+        ensures room { HasRoom front (⟦<FileDisk<'a, R> as Disk>⟧.state result) }
         ensures missing { missing_in result.backing ≡ None }
     {
-        FileMedium::asking(files, path, size, Access::Passing)
+        FileDisk::asking(files, path, front, Access::Passing)
     }
 
     /// The same for what only reads: the file may be one that can't be written, and others that only read may have it
     /// at the same time. Every write fails.
-    pub fn for_reading(files: &'a R, path: &'a str, size: u32) -> FileMedium<'a, R>
-        ensures untouched { IsUntouched size (⟦<FileMedium<'a, R> as Medium>⟧.state result) }
+    pub fn for_reading(files: &'a R, path: &'a str, front: u32) -> FileDisk<'a, R>
+        requires { record_place front + 16 < 2 ^ 32 }
+        ensures untouched { IsUntouched (record_place front + 16) (⟦<FileDisk<'a, R> as Disk>⟧.state result) }
+        ensures room { HasRoom front (⟦<FileDisk<'a, R> as Disk>⟧.state result) }
         ensures missing { missing_in result.backing ≡ None }
     {
-        FileMedium::asking(files, path, size, Access::Reading)
+        FileDisk::asking(files, path, front, Access::Reading)
     }
 
     /// One that asks so for its file.
-    fn asking(files: &'a R, path: &'a str, size: u32, access: Access) -> FileMedium<'a, R>
-        ensures untouched { IsUntouched size (⟦<FileMedium<'a, R> as Medium>⟧.state result) }
+    fn asking(files: &'a R, path: &'a str, front: u32, access: Access) -> FileDisk<'a, R>
+        requires { record_place front + 16 < 2 ^ 32 }
+        ensures untouched { IsUntouched (record_place front + 16) (⟦<FileDisk<'a, R> as Disk>⟧.state result) }
+        ensures room { HasRoom front (⟦<FileDisk<'a, R> as Disk>⟧.state result) }
         ensures missing { missing_in result.backing ≡ None }
     {
-        FileMedium {
+        FileDisk {
             files,
             path,
             backing: Backing::Unopened,
             access,
-            size,
+            front,
+            size: place_behind(front) + RECORD_SIZE,
             clock: 0,
             counts: Counts::new(),
         }
     }
 
-    /// What the file system lacks, where a call has failed for that. The medium does not work then, and each call
+    /// What the file system lacks, where a call has failed for that. The disk does not work then, and each call
     /// fails.
     pub fn missing(&self) -> Option<Missing>
         ensures told { result ≡ missing_in self.now.backing }
-        ensures works { is_some result ≡ true → (⟦<FileMedium<'a, R> as Medium>⟧.state self.now).works ≡ false }
+        ensures works { is_some result ≡ true → (⟦<FileDisk<'a, R> as Disk>⟧.state self.now).works ≡ false }
     {
         match &self.backing {
             Backing::Lacking(missing) => Some(*missing),
@@ -142,7 +158,7 @@ impl<'a, R: Files<File = File>> FileMedium<'a, R> {
     }
 }
 
-impl<'a, R: Files<File = File>> Medium for FileMedium<'a, R> {
+impl<'a, R: Files<File = File>> Disk for FileDisk<'a, R> {
     ghost use Rattle.std.specs.Prelude.{[], ◌∷◌};
     ghost use Rattle.tach_media.specs.Untold.{untold_state, untold};
 
@@ -164,11 +180,11 @@ impl<'a, R: Files<File = File>> Medium for FileMedium<'a, R> {
         reach(
             self.files,
             self.path,
-            self.size,
+            self.front,
             self.access,
             &mut self.backing,
         );
-        if self.counts.works && read(&self.backing, place, out) {
+        if self.counts.works && read(&self.backing, self.front, place, out) {
             return Ok(());
         }
         self.counts.fail();
@@ -179,25 +195,30 @@ impl<'a, R: Files<File = File>> Medium for FileMedium<'a, R> {
         reach(
             self.files,
             self.path,
-            self.size,
+            self.front,
             self.access,
             &mut self.backing,
         );
-        if self.counts.works && self.access.writes() {
-            self.clock = self.clock.saturating_add(1);
-            if write(&self.backing, place, bytes) && stands(self.access, &mut self.backing) {
-                return Ok(());
-            }
+        if self.counts.works
+            && self.access.writes()
+            && write(&self.backing, place, bytes)
+            && stands(self.access, &mut self.backing)
+        {
+            return Ok(());
         }
         self.counts.fail();
         Err(Failed)
+    }
+
+    fn end_group(&mut self) {
+        self.clock = self.clock.saturating_add(1);
     }
 
     fn revive(&mut self) -> Result<(), Failed> {
         reach(
             self.files,
             self.path,
-            self.size,
+            self.front,
             self.access,
             &mut self.backing,
         );
@@ -386,12 +407,31 @@ fn named<R: Files<File = File>>(files: &R, path: &str) -> Result<(), Unreached> 
     }
 }
 
-fn read(backing: &Backing, place: u32, out: &mut [u8]) -> bool
+/// Reads from a file. Behind the front, what it does not have reads as zeros.
+fn read(backing: &Backing, front: u32, place: u32, out: &mut [u8]) -> bool
     ensures { result ≡ true → missing_in backing.now ≡ None }
 {
     match backing {
-        Backing::Open(file) => file.read_exact_at(out, place as u64).is_ok(),
+        Backing::Open(file) => {
+            let there = if place < front {
+                out.len()
+            } else {
+                there(file, place, out.len())
+            };
+            out[there..].fill(0);
+            file.read_exact_at(&mut out[..there], place as u64).is_ok()
+        }
         _ => false,
+    }
+}
+
+/// How many of so many bytes from a place on a file has.
+fn there(file: &File, place: u32, len: usize) -> usize
+    ensures { result ≤ len }
+{
+    match file.metadata() {
+        Ok(metadata) => len.min(metadata.len().saturating_sub(place as u64) as usize),
+        Err(_) => len,
     }
 }
 

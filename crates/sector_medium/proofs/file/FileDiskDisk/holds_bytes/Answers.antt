@@ -1,4 +1,4 @@
-use Rattle.tach_media.proofs.file.FileMediumMedium.holds_bytes.Goals as goal
+use Rattle.sector_medium.proofs.file.FileDiskDisk.holds_bytes.Goals as goal
 
 pub returns : goal.returns
 returns g c = record {

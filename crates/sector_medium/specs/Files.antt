@@ -1,13 +1,13 @@
--- What stands under a medium that is a file.
+-- What stands under a disk that is a file.
 use Rattle.std.specs.Prelude.{Option, Some, None}
 use Rattle.std.specs.declared.fs.locks.TryLockError.{TryLockError}
 use Rattle.std.specs.declared.fs.locks.TryLockError.TheVariants.{WouldBlock, Error}
-use Rattle.tach_media.specs.declared.file.Missing.{Missing}
-use Rattle.tach_media.specs.declared.file.Missing.TheVariants.{Locks}
-use Rattle.tach_media.specs.declared.file.Unreached.{Unreached}
-use Rattle.tach_media.specs.declared.file.Unreached.TheVariants as unreached
-use Rattle.tach_media.specs.declared.file.Backing.{Backing}
-use Rattle.tach_media.specs.declared.file.Backing.TheVariants.{Unopened, Open, Lost, Lacking}
+use Rattle.sector_medium.specs.declared.file.Missing.{Missing}
+use Rattle.sector_medium.specs.declared.file.Missing.TheVariants.{Locks}
+use Rattle.sector_medium.specs.declared.file.Unreached.{Unreached}
+use Rattle.sector_medium.specs.declared.file.Unreached.TheVariants as unreached
+use Rattle.sector_medium.specs.declared.file.Backing.{Backing}
+use Rattle.sector_medium.specs.declared.file.Backing.TheVariants.{Unopened, Open, Lost, Lacking}
 
 -- what the file system lacks, where a call has failed for that
 abbrev pub missing_in : Backing → Option Missing
