@@ -90,10 +90,10 @@ enum Backing {
 /// The first call opens the file, and makes it, as zeros, where it is missing or has no byte, as a making that was
 /// stopped leaves it. From then on it is locked; where another program has locked it, every call fails. One that has
 /// some bytes, and fewer than its front, is too short: it is made whole, with zeros, where the device is made anew, and
-/// else every call fails. Every write stands on the disk before `Ok`, and so does the name of a file that was made. Each
-/// opening that writes waits for the name of a file that was there too, since whoever made it may have been stopped
-/// before; where its folder can't be synchronised it goes on. Where the file, or its file system, lacks what all this
-/// takes every call fails, and `missing` tells what. It tells nothing of its content.
+/// else every call fails. Every write stands on the disk before `Ok`, and so does the name of a file that was made.
+/// Each opening that writes waits for the name of a file that was there too, since whoever made it may have been
+/// stopped before; where its folder can't be synchronised it goes on. Where the file, or its file system, lacks what
+/// all this takes every call fails, and `missing` tells what. It tells nothing of its content.
 #[derive(Drop)]
 pub struct FileDisk<'a, R: Files<File = File>> {
     files: &'a R,
@@ -111,7 +111,7 @@ pub struct FileDisk<'a, R: Files<File = File>> {
 impl<'a, R: Files<File = File>> FileDisk<'a, R> {
     /// A front of so many bytes, and room for its record, in the file at this path.
     pub fn new(files: &'a R, path: &'a str, front: u32) -> FileDisk<'a, R>
-        requires { record_place front + 16 < 2 ^ 32 }
+        requires { front + 528 < 2 ^ 32 }
         ensures untouched { IsUntouched (record_place front + 16) (⟦<FileDisk<'a, R> as Disk>⟧.state result) }
         ensures room { HasRoom front (⟦<FileDisk<'a, R> as Disk>⟧.state result) }
         ensures missing { missing_in result.backing ≡ None }
@@ -121,7 +121,7 @@ impl<'a, R: Files<File = File>> FileDisk<'a, R> {
 
     /// The same for a device that is made anew: a file that is too short is made whole first.
     pub fn renewing(files: &'a R, path: &'a str, front: u32) -> FileDisk<'a, R>
-        requires { record_place front + 16 < 2 ^ 32 }
+        requires { front + 528 < 2 ^ 32 }
         ensures untouched { IsUntouched (record_place front + 16) (⟦<FileDisk<'a, R> as Disk>⟧.state result) }
         ensures room { HasRoom front (⟦<FileDisk<'a, R> as Disk>⟧.state result) }
         ensures missing { missing_in result.backing ≡ None }
@@ -131,7 +131,7 @@ impl<'a, R: Files<File = File>> FileDisk<'a, R> {
 
     /// The same for what need not outlive a power cut, as a demonstration: no write waits for the disk.
     pub fn without_waiting(files: &'a R, path: &'a str, front: u32) -> FileDisk<'a, R>
-        requires { record_place front + 16 < 2 ^ 32 }
+        requires { front + 528 < 2 ^ 32 }
         ensures untouched { IsUntouched (record_place front + 16) (⟦<FileDisk<'a, R> as Disk>⟧.state result) }
         ensures room { HasRoom front (⟦<FileDisk<'a, R> as Disk>⟧.state result) }
         ensures missing { missing_in result.backing ≡ None }
@@ -142,7 +142,7 @@ impl<'a, R: Files<File = File>> FileDisk<'a, R> {
     /// The same for what only reads: the file may be one that can't be written, and others that only read may have it
     /// at the same time. Every write fails.
     pub fn for_reading(files: &'a R, path: &'a str, front: u32) -> FileDisk<'a, R>
-        requires { record_place front + 16 < 2 ^ 32 }
+        requires { front + 528 < 2 ^ 32 }
         ensures untouched { IsUntouched (record_place front + 16) (⟦<FileDisk<'a, R> as Disk>⟧.state result) }
         ensures room { HasRoom front (⟦<FileDisk<'a, R> as Disk>⟧.state result) }
         ensures missing { missing_in result.backing ≡ None }
@@ -151,8 +151,9 @@ impl<'a, R: Files<File = File>> FileDisk<'a, R> {
     }
 
     /// One that asks so for its file.
+    #[tactic(auto, using(crate::specs::RedoLaws::record_near))]
     fn asking(files: &'a R, path: &'a str, front: u32, access: Access) -> FileDisk<'a, R>
-        requires { record_place front + 16 < 2 ^ 32 }
+        requires { front + 528 < 2 ^ 32 }
         ensures untouched { IsUntouched (record_place front + 16) (⟦<FileDisk<'a, R> as Disk>⟧.state result) }
         ensures room { HasRoom front (⟦<FileDisk<'a, R> as Disk>⟧.state result) }
         ensures missing { missing_in result.backing ≡ None }
