@@ -113,7 +113,7 @@ fn disk<'a>(
     size: u32,
     access: Access,
 ) -> FileDisk<'a, HostRuntime>
-    requires { record_place size + 16 < 2 ^ 32 }
+    requires { size + 528 < 2 ^ 32 }
     ensures untouched { IsUntouched (record_place size + 16) (⟦<FileDisk<'a, HostRuntime> as Disk>⟧.state result) }
     ensures room { HasRoom size (⟦<FileDisk<'a, HostRuntime> as Disk>⟧.state result) }
 {
@@ -134,7 +134,7 @@ fn file<'a>(
     size: u32,
     access: Access,
 ) -> RedoMedium<FileDisk<'a, HostRuntime>>
-    requires { record_place size + 16 < 2 ^ 32 }
+    requires { size + 528 < 2 ^ 32 }
     ensures { IsUntouched size (⟦<RedoMedium<FileDisk<'a, HostRuntime>> as Medium>⟧.state result) }
 {
     RedoMedium::new(disk(rt, path, size, access), size)
