@@ -33,3 +33,4 @@ pub mod Downloads
 pub mod PacketServices
 pub mod CardEnds
 pub mod Demo
+pub mod HintWords
