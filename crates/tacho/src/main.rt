@@ -182,8 +182,8 @@ fn disk<'a>(
 {
     match access {
         Access::Lasting => FileDisk::new(rt, image.path, size),
-        Access::Renewing => FileDisk::renewing(rt, image.path, size).keeping(image.copy),
-        Access::Passing => FileDisk::without_waiting(rt, image.path, size).keeping(image.copy),
+        Access::Renewing => FileDisk::renewing(rt, image.path, Some(image.copy), size),
+        Access::Passing => FileDisk::without_waiting(rt, image.path, Some(image.copy), size),
         Access::Reading => FileDisk::for_reading(rt, image.path, size),
         Access::Looking => FileDisk::for_reading(rt, path_there(rt, image.path), size),
     }
