@@ -8,3 +8,5 @@ pub mod Together
 pub mod Theorem
 pub mod Bytes
 pub mod Examples
+pub mod Gap
+pub mod GivenUp
