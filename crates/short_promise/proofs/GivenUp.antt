@@ -10,7 +10,7 @@ use Rattle.safety_model.specs.device_rule.unit_model.Image.{recorded}
 use Rattle.safety_model.specs.device_rule.Own.{own_view}
 use Rattle.safety_model.specs.card_retention.Retains.{entries_from}
 use Rattle.safety_model.specs.Recording.{Recording, brought}
-use Rattle.device_rule.proofs.gated_ring.Orders.{range_each, Each as EachNumber}
+use Rattle.gated_ring.proofs.Orders.{range_each, Each as EachNumber}
 use Rattle.short_promise.specs.InShort.{IsOverwritten, ShowsFirst, IsGivenUp}
 
 -- so many days, from the third day of 1970 on, each with its first minute
