@@ -27,7 +27,7 @@ use Rattle.short_promise.proofs.Together.{from-within}
 use Rattle.safety_model.specs.device_rule.Filling.{seen_by_unit}
 use Rattle.std.proofs.lemmas.List.Elements.{All-contains, All-contains_itself, Contains-append_left, Contains-push_cases}
 use Rattle.short_promise.specs.InShort.{said, due, IsOverwritten, HasAll, Stands, ShowsFirst, AreTogether, MissesNone}
-use Rattle.short_promise.proofs.Saying.{told}
+use Rattle.days_told.proofs.Saying.{told}
 use Rattle.short_promise.proofs.Bytes.{empty_image, image_of_both, image_of_other, image_with_hole, image_of_first, empty-days, empty-last, both-days, both-last, both-decodes, other-days, other-last, hole-days, hole-last, first-last}
 use Rattle.short_promise.proofs.Images.{said-told}
 

@@ -25,7 +25,7 @@ use Rattle.safety_model.specs.device_rule.history_model.History.{unit_history, w
 use Rattle.safety_model.specs.device_rule.Filling.{filled_with}
 use Rattle.safety_model.specs.Unit.{UnitShows}
 use Rattle.short_promise.specs.InShort.{said, HasAll}
-use Rattle.short_promise.proofs.Saying.{told}
+use Rattle.days_told.proofs.Saying.{told}
 use Rattle.short_promise.proofs.Images.{said-told}
 use Rattle.short_promise.proofs.Short.{unit-has}
 use Rattle.short_promise.proofs.Bytes.{image_with, empty_image, empty-last, empty-days}

@@ -1,6 +1,3 @@
-pub mod Lost
-pub mod Saying
-pub mod Turning
 pub mod Images
 pub mod Cards
 pub mod Short

@@ -24,7 +24,7 @@ use Rattle.history_model.proofs.Told.{rises}
 use Rattle.safety_model.specs.Unit.{marks_of, UnitShows, UnitMarkHolds, UnitSafe}
 use Rattle.safety_model.proofs.Whole.{mark-of, no-failure}
 use Rattle.short_promise.specs.InShort.{said, IsOverwritten, HasAll, Stands, MissesNone, KeepsAlone}
-use Rattle.short_promise.proofs.Lost.{IsParted, lost-parted}
+use Rattle.days_told.proofs.Lost.{IsParted, lost-parted}
 use Rattle.short_promise.proofs.Images.{has-all, shows-says, due-among, due-history, passed-rising}
 
 -- a run of these seconds, on a unit that began with this image

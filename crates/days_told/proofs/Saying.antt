@@ -6,7 +6,7 @@ use Rattle.std.proofs.lemmas.Bool.Decides.{nat_tests}
 use Rattle.std.proofs.lemmas.List.Elements.{All-nil, All-cons, All-head, All-tail, All-append, All-weaker, All-map, All-drop, filter_passes, Contains-push_cases, Contains-append_cases}
 use Rattle.gated_ring.proofs.Orders.{range_each, Each as EachNumber}
 use Rattle.unit_model.specs.Days.{UnitMinute, ShownDay, StoredDay, day_of, minute_at, minutes_shown, day_shown, days_shown, padded, unknown_minute, with_minute, day_from, filled, filled_all, newest_days, minutes_of}
-use Rattle.short_promise.proofs.Turning.{InTurn, in-turn_high, Rising}
+use Rattle.days_told.proofs.Turning.{InTurn, in-turn_high, Rising}
 
 -- the first of these minutes with a number, or else what is given
 abbrev pub look : List UnitMinute → (m : ℕ) → UnitMinute → UnitMinute
