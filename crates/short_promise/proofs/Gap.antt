@@ -1,5 +1,5 @@
 -- Across a gap: the history that a real log makes of a trace, and what two images say of it, by their bytes.
-use Rattle.std.proofs.Common.{◌≡◌, inl, inr, ℕ, true, false, Some, None, List, [], ◌∷◌, ◌++◌, Contains, refl, ap, subst, sym, ◌∙◌, arith}
+use Rattle.std.proofs.Common.{◌≡◌, inl, inr, ℕ, true, false, Some, None, List, [], ◌∷◌, Contains, refl, ap, subst, sym, ◌∙◌, arith}
 use Rattle.gated_ring.specs.Ring.{indices as ring_indices}
 use Rattle.safety_model.specs.device_rule.activity_codec.declared.values.Activity.TheVariants.{Rest, Available, Driving}
 use Rattle.safety_model.specs.device_rule.activity_codec.declared.values.Slot.TheVariants.{Driver}
@@ -16,7 +16,7 @@ use Rattle.safety_model.specs.device_rule.minute_model.Minute.{decided}
 use Rattle.safety_model.specs.device_rule.log_model.declared.lines.Break.TheVariants.{Cut}
 use Rattle.safety_model.specs.device_rule.log_model.declared.lines.Verdict.TheVariants.{Accepted}
 use Rattle.safety_model.specs.device_rule.log_model.Log.{RunLog, cut_in, kept_after, is_torn_in, found_in}
-use Rattle.safety_model.specs.device_rule.log_model.Course.{ToldSecond, went}
+use Rattle.safety_model.specs.device_rule.log_model.Course.{went}
 use Rattle.safety_model.specs.device_rule.log_model.Spans.{spans_of}
 use Rattle.log_model.proofs.Spanning.{seconds-order}
 use Rattle.safety_model.specs.device_rule.history_model.Minutes.{HistoryMinute, card_history}

@@ -1,5 +1,5 @@
 -- What overwriting excuses, and what it does not: a day that is there is never one that was given up.
-use Rattle.std.proofs.Common.{◌≡◌, ℕ, ◌*◌, ◌+◌, ◌/◌, ◌<◌, ◌≤◌, Bool, true, false, cond, List, [], ◌∷◌, All, Contains, map, length, nat_le, ◌++◌, refl, ap, subst, sym, ◌∙◌, arith}
+use Rattle.std.proofs.Common.{◌≡◌, ℕ, ◌*◌, ◌/◌, ◌<◌, ◌≤◌, Bool, true, false, cond, List, [], ◌∷◌, All, Contains, map, length, nat_le, ◌++◌, refl, ap, subst, sym, ◌∙◌, arith}
 use Rattle.std.specs.List.{range_with_len}
 use Rattle.std.proofs.lemmas.Bool.Decides.{nat_tests}
 use Rattle.std.proofs.lemmas.List.Elements.{All-nil, All-cons, All-map, All-contains}
@@ -39,15 +39,15 @@ still-there : (x : List ℕ) (d : ShownDay) (m : ℕ) → Contains (recorded x) 
 still-there x d m at is older = let late : m / 1440 < d.day = All-contains (λ (d : ShownDay). m / 1440 < d.day) (recorded x) d older.later at in omega (arith, late, is)
 
 -- ---- of a card
+tells-less : (a b : ℕ) → nat_le a b ≡ true → a ≤ b
+tells-less a b is = grind (arith, nat_tests)
+
 from-late : (day : ℕ) (es : List Entry) → All (λ (e : Entry). day ≤ e.minute / 1440) (entries_from day es)
 from-late day [] = All-nil (λ (e : Entry). day ≤ e.minute / 1440)
 from-late day (e ∷ es) = go (nat_le day (e.minute / 1440)) refl
   where
     go : (b : Bool) → nat_le day (e.minute / 1440) ≡ b → All (λ (e : Entry). day ≤ e.minute / 1440) (cond b (e ∷ entries_from day es) (entries_from day es))
-    go true is = All-cons (λ (e : Entry). day ≤ e.minute / 1440) e (entries_from day es) (le day (e.minute / 1440) is) (from-late day es)
-      where
-        le : (a b : ℕ) → nat_le a b ≡ true → a ≤ b
-        le a b is = grind (arith, nat_tests)
+    go true is = All-cons (λ (e : Entry). day ≤ e.minute / 1440) e (entries_from day es) (tells-less day (e.minute / 1440) is) (from-late day es)
     go false is = from-late day es
 
 module _ (r : Recording) (c : Card) (x : List ℕ) where
