@@ -29,7 +29,7 @@ in-turn_high from (d ∷ days) h = All-cons (λ (e : ShownDay). from ≤ e.day) 
     (All-weaker (λ (e : ShownDay). suc d.day ≤ e.day) (λ e. from ≤ e.day) (λ e lt. omega (arith, lt, h.0)) days (in-turn_high (suc d.day) days h.2))
 
 -- THE DAYS OF AN IMAGE
-each-all : (P : ℕ → Type 0) (xs : List ℕ) → EachNumber P xs → All P xs
+pub each-all : (P : ℕ → Type 0) (xs : List ℕ) → EachNumber P xs → All P xs
 each-all P [] each = All-nil P
 each-all P (x ∷ xs) each = All-cons P x xs each.0 (each-all P xs each.1)
 

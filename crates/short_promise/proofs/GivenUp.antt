@@ -10,16 +10,14 @@ use Rattle.safety_model.specs.device_rule.unit_model.Image.{recorded}
 use Rattle.safety_model.specs.device_rule.Own.{own_view}
 use Rattle.safety_model.specs.card_retention.Retains.{entries_from}
 use Rattle.safety_model.specs.Recording.{Recording, brought}
-use Rattle.gated_ring.proofs.Orders.{range_each, Each as EachNumber}
+use Rattle.gated_ring.proofs.Orders.{range_each}
+use Rattle.days_told.proofs.Turning.{each-all}
+use Rattle.days_told.proofs.Year.{year, year-days, year-later}
 use Rattle.short_promise.specs.InShort.{IsOverwritten, ShowsFirst, IsGivenUp}
 
 -- so many days, from the third day of 1970 on, each with its first minute
 abbrev days_of : ℕ → List ShownDay
 days_of n = map (λ (day : ℕ). record { day = day; minutes = unknown_minute (1440 * day) ∷ [] }) (range_with_len 2 n)
-
-each-all : (P : ℕ → Type 0) (xs : List ℕ) → EachNumber P xs → All P xs
-each-all P [] each = All-nil P
-each-all P (x ∷ xs) each = All-cons P x xs each.0 (each-all P xs each.1)
 
 -- OVERWRITTEN, of an image with 365 days: a minute of the day before the first of them
 overwritten : (x : List ℕ) → recorded x ≡ days_of 365 → IsOverwritten x 2000
@@ -29,6 +27,10 @@ overwritten x is = record {
       (each-all (λ (day : ℕ). 1 < day) (range_with_len 2 365) (range_each (λ (day : ℕ). 1 < day) 2 365 (λ day low high. omega (arith, low)))));
   many = let n : length (recorded x) ≡ 365 = ap length is ∙ refl in omega (arith, n);
 }
+
+-- and so of one by its bytes
+overwritten-in-year : IsOverwritten year 2000
+overwritten-in-year = record { later = year-later; many = let n = year-days in omega (arith, n) }
 
 -- NOT with 364 of them: there was room
 room-left : (x : List ℕ) → recorded x ≡ days_of 364 → IsOverwritten x 2000 → ⊥
