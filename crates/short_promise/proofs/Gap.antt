@@ -147,7 +147,7 @@ filled-by days is = newest_days 366 (filled_with days is)
 abbrev Shows : List ℕ → Type 0
 Shows x = UnitShows (recorded empty_image) past lost x
 
-gap-shows : Shows image_of_gap
+abbrev gap-shows : Shows image_of_gap
 gap-shows = record {
   some = stands ∷ drives 1448 ∷ drives 1449 ∷ [];
   passed = inl ([], past-by-hand);
@@ -156,7 +156,7 @@ gap-shows = record {
   days = inl (gap-days ∙ ap (λ (ds : List ShownDay). filled-by ds (stands ∷ drives 1448 ∷ drives 1449 ∷ [])) (sym empty-days));
 }
 
-cut-shows : Shows image_at_cut
+abbrev cut-shows : Shows image_at_cut
 cut-shows = record {
   some = stands ∷ drives 1441 ∷ [];
   passed = inr (subst (λ (ls : List (List HistoryMinute)). Contains ls (stands ∷ drives 1441 ∷ [])) (sym lost-by-hand) (0, omega arith, refl));

@@ -46,11 +46,11 @@ tells-less a b is = grind (arith, nat_tests)
 
 from-late : (day : ℕ) (es : List Entry) → All (λ (e : Entry). day ≤ e.minute / 1440) (entries_from day es)
 from-late day [] = All-nil (λ (e : Entry). day ≤ e.minute / 1440)
-from-late day (e ∷ es) = go (nat_le day (e.minute / 1440)) refl
+from-late day (e ∷ es) = go (nat_le day (e.minute / 1440)) refl (from-late day es)
   where
-    go : (b : Bool) → nat_le day (e.minute / 1440) ≡ b → All (λ (e : Entry). day ≤ e.minute / 1440) (cond b (e ∷ entries_from day es) (entries_from day es))
-    go true is = All-cons (λ (e : Entry). day ≤ e.minute / 1440) e (entries_from day es) (tells-less day (e.minute / 1440) is) (from-late day es)
-    go false is = from-late day es
+    go : (b : Bool) → nat_le day (e.minute / 1440) ≡ b → All (λ (e : Entry). day ≤ e.minute / 1440) (entries_from day es) → All (λ (e : Entry). day ≤ e.minute / 1440) (cond b (e ∷ entries_from day es) (entries_from day es))
+    go true is rest = All-cons (λ (e : Entry). day ≤ e.minute / 1440) e (entries_from day es) (tells-less day (e.minute / 1440) is) rest
+    go false is rest = rest
 
 module _ (r : Recording) (c : Card) (x : List ℕ) where
   -- GIVEN UP: an entry of the second day, where the card shows those from the third on

@@ -10,7 +10,7 @@ use Rattle.safety_model.specs.device_rule.log_model.Causes.{device_of, cuts, car
 use Rattle.safety_model.specs.device_rule.log_model.Slots.{same_card}
 use Rattle.safety_model.specs.device_rule.log_model.Spans.{AreInOrder}
 use Rattle.safety_model.specs.device_rule.history_model.Book.{IsMark}
-use Rattle.safety_model.specs.Recording.{Recording, start_of}
+use Rattle.safety_model.specs.Recording.{Recording, start_of, told_of}
 use Rattle.safety_model.specs.Unit.{marks_of}
 use Rattle.safety_model.specs.Safe.{Devices, card_of, IsSafe, IsCaused}
 use Rattle.short_promise.specs.InShort.{KeepsInShort}
