@@ -4,6 +4,7 @@
 mod disk;
 mod file;
 mod found;
+mod mem_disk;
 mod over;
 mod record;
 mod redo_medium;
@@ -12,6 +13,7 @@ mod steps;
 pub use disk::Disk;
 pub use file::{FileDisk, Missing};
 use found::{Found, Redo};
+pub use mem_disk::{Cut, MOST_GROUPS, MemDisk};
 use over::read_over;
 use record::seen;
 pub use redo_medium::RedoMedium;

@@ -1,5 +1,5 @@
 //! The program: it hands its words and its streams to the top call, and ends with its status. On standard error it
-//! prints what a device's file system lacks, a line for each action of a run that was refused, for each card that was
+//! prints what a device's file lacks, a line for each action of a run that was refused, for each card that was
 //! turned away and for each call that failed, and the fault's line.
 #![tactic(auto)]
 
@@ -78,6 +78,8 @@ fn words_of(rt: &HostRuntime) -> Result<Words, Fault> {
 enum Access {
     /// It writes them, and each write waits for the disk.
     Lasting,
+    /// It makes a device anew: also one whose file is too short.
+    Renewing,
     /// It writes them as a demonstration, which need not outlive a power cut.
     Passing,
     /// It reads them: also such as can't be written, and beside other forms that read.
@@ -90,6 +92,7 @@ enum Access {
 fn access_of(words: &Words) -> Access {
     match form_of(words) {
         Some(Form::Demo { .. }) => Access::Passing,
+        Some(Form::FormatCard { .. } | Form::FormatUnit { .. }) => Access::Renewing,
         Some(
             Form::Serve
             | Form::ServeHex
@@ -110,12 +113,13 @@ fn disk<'a>(
     size: u32,
     access: Access,
 ) -> FileDisk<'a, HostRuntime>
-    requires { record_place size + 16 < 2 ^ 32 }
+    requires { size + 528 < 2 ^ 32 }
     ensures untouched { IsUntouched (record_place size + 16) (⟦<FileDisk<'a, HostRuntime> as Disk>⟧.state result) }
     ensures room { HasRoom size (⟦<FileDisk<'a, HostRuntime> as Disk>⟧.state result) }
 {
     match access {
         Access::Lasting => FileDisk::new(rt, path, size),
+        Access::Renewing => FileDisk::renewing(rt, path, size),
         Access::Passing => FileDisk::without_waiting(rt, path, size),
         Access::Reading => FileDisk::for_reading(rt, path, size),
         Access::Looking => FileDisk::for_reading(rt, path_there(rt, path), size),
@@ -130,7 +134,7 @@ fn file<'a>(
     size: u32,
     access: Access,
 ) -> RedoMedium<FileDisk<'a, HostRuntime>>
-    requires { record_place size + 16 < 2 ^ 32 }
+    requires { size + 528 < 2 ^ 32 }
     ensures { IsUntouched size (⟦<RedoMedium<FileDisk<'a, HostRuntime>> as Medium>⟧.state result) }
 {
     RedoMedium::new(disk(rt, path, size, access), size)
@@ -146,8 +150,8 @@ fn path_there<'a>(rt: &HostRuntime, path: &'a str) -> &'a str {
 
 /// The top call over the program's streams, and over the unit and the cards in the working folder's files. A stream
 /// that is closed has left its number free: a folder takes it, which can be neither read nor written, so that no
-/// device's file gets it, over which then would be written what is printed. Where a device's file system lacks what its
-/// file asks of it, one line on standard error says what.
+/// device's file gets it, over which then would be written what is printed. Where a device's file is too short, or its
+/// file system lacks what it takes, one line on standard error says so.
 fn run(rt: &HostRuntime) -> Ended {
     let _first = File::open(rt, "/");
     let _second = File::open(rt, "/");
