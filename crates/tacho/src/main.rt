@@ -29,6 +29,7 @@ mod record_command;
 mod report_command;
 mod serve_command;
 mod show_command;
+mod slot_command;
 mod state_command;
 mod top;
 mod upgrade_command;
