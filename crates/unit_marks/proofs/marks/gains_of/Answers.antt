@@ -1,18 +1,18 @@
 use Rattle.std.proofs.Common.{◌∙◌, List, ◌++◌, length, get_or, drop, ap, sym, arith, append_assoc, append-nil, length-drop}
 use Rattle.view_model.specs.declared.marks.Distance.{Distance}
 use Rattle.unit_marks.specs.declared.marks.Midnight.{Midnight}
-use Rattle.unit_marks.specs.Marks.{gained, distances_of}
+use Rattle.unit_marks.specs.Marks.{gained, gains_of}
 use Rattle.unit_marks.proofs.Empty.{no_midnight}
 use Rattle.unit_marks.proofs.Telling.{first_gained, none_gained}
-use Rattle.unit_marks.proofs.marks.distances_of.Goals as goal
+use Rattle.unit_marks.proofs.marks.gains_of.Goals as goal
 
 pub midnights-preserved : goal.midnights-preserved
 midnights-preserved c =
     let rest = c.midnights.rest.now in
     let here : List Distance = gained (get_or c.midnights.rest.now 0 no_midnight) (get_or c.midnights.rest.now 1 no_midnight) in
-    ap (λ (l : List Distance). l ++ distances_of c.split_at.result.1.now) c.in_ok-add_gained.ensures
-    ∙ ap (λ (l : List Midnight). (c.midnights.distances.items ++ here) ++ distances_of l) c.split_at.ensures.back
-    ∙ append_assoc c.midnights.distances.items here (distances_of (drop 1 rest))
+    ap (λ (l : List Distance). l ++ gains_of c.split_at.result.1.now) c.in_ok-add_gained.ensures
+    ∙ ap (λ (l : List Midnight). (c.midnights.distances.items ++ here) ++ gains_of l) c.split_at.ensures.back
+    ∙ append_assoc c.midnights.distances.items here (gains_of (drop 1 rest))
     ∙ ap (λ (l : List Distance). c.midnights.distances.items ++ l) (sym (first_gained rest no_midnight (omega (arith, c.midnights-test.true))))
     ∙ c.midnights.invariant
 
