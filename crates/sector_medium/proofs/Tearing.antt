@@ -1,10 +1,10 @@
 -- What stands of a write of which a part is written.
-use Rattle.std.proofs.Common.{◌≡◌, ◌⊎◌, inl, inr, ℕ, ◌+◌, ◌-◌, ◌≤◌, ◌%◌, List, length, take, refl, sym, ◌∙◌, ap, subst}
+use Rattle.std.proofs.Common.{◌≡◌, inl, inr, ℕ, ◌+◌, ◌-◌, ◌≤◌, ◌%◌, List, length, take, refl, sym, ◌∙◌, ap, subst}
 use Rattle.std.proofs.Common.{arith}
 use Rattle.std.proofs.Common.{drop, ◌++◌}
 use Rattle.std.proofs.lemmas.List.{take_all, drop-drop}
 use borrow.Rule.Slice.PartMut.{put_mid}
-use Rattle.card_layout.specs.Images.{bytes_at, put, SameOutside}
+use Rattle.card_layout.specs.Images.{bytes_at, put}
 use Rattle.card_layout.proofs.Images.{outside_same, outside_wider, put_outside}
 use Rattle.sector_medium.specs.Disk.{IsTorn}
 use Rattle.sector_medium.specs.RedoLaws.{length_bytes_at}

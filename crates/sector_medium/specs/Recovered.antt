@@ -8,7 +8,7 @@ use Rattle.sector_medium.specs.Redo.{record_place, recovered, is_pending, IsShut
 use Rattle.sector_medium.specs.declared.found.Redo.{Redo}
 use Rattle.sector_medium.specs.declared.found.Found.{Found}
 use Rattle.sector_medium.specs.declared.found.Found.TheVariants.{Unknown, Closed, Stale, Open}
-use Rattle.sector_medium.specs.RedoLaws.{recovered_sized, recovered_bytes, record_behind}
+use Rattle.sector_medium.specs.RedoLaws.{recovered_sized, recovered_bytes}
 
 -- THE MEMORY OF SO MANY BYTES ON A DISK: its image is what is recovered of the disk's, and a stop may leave what is
 -- recovered of an image that it may leave of the disk

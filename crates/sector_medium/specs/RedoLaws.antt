@@ -1,14 +1,14 @@
 -- What the memory that a disk holds has in length and in bytes.
-use Rattle.std.specs.Prelude.{◌≡◌, ℕ, zero, suc, ◌+◌, ◌-◌, ◌*◌, ◌/◌, ◌≤◌, ◌<◌, Bool, true, false, if◌then◌else◌, ◌&&◌}
-use Rattle.std.specs.Prelude.{nat_lt, nat_le, List, [], ◌∷◌, ◌++◌, length, take, drop, slice_index}
-use Rattle.std.proofs.Common.{refl, sym, ◌∙◌, ap, subst, arith, ⊎_elim, length-append, length-drop, cond}
+use Rattle.std.specs.Prelude.{◌≡◌, ℕ, zero, suc, ◌+◌, ◌*◌, ◌/◌, ◌≤◌, ◌<◌, Bool, true, false, if◌then◌else◌}
+use Rattle.std.specs.Prelude.{List, [], ◌∷◌, ◌++◌, length, take, drop}
+use Rattle.std.proofs.Common.{refl, sym, subst, arith, length-drop}
 use Rattle.std.proofs.lemmas.Bool.Decides.{nat_tests}
-use Rattle.std.proofs.lemmas.List.{length-take-le, length-take}
+use Rattle.std.proofs.lemmas.List.{length-take-le}
 use Rattle.card_layout.specs.Fields.{IsBytes}
 use Rattle.card_layout.proofs.Images.{put_outside}
 use Rattle.card_layout.proofs.Cuts.{IsBytes-take, IsBytes-drop}
 use Rattle.tach_media.specs.Medium.{bytes_at, put}
-use Rattle.sector_medium.specs.Redo.{record_place, gate_of, is_gate, is_matched, is_pending, window, new_bytes}
+use Rattle.sector_medium.specs.Redo.{record_place, gate_of, is_gate, is_pending, window, new_bytes}
 use Rattle.sector_medium.specs.Redo.{recovered}
 
 -- a gate's border lies inside the memory

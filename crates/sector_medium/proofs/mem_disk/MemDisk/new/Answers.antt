@@ -1,4 +1,4 @@
-use Rattle.std.proofs.Common.{◌≡◌, ◌<◌, ◌≤◌, ◌+◌, ◌^◌, length, arith}
+use Rattle.std.proofs.Common.{arith}
 use Rattle.sector_medium.proofs.mem_disk.MemDisk.new.Goals as goal
 
 pub overflow_cast-front : goal.overflow_cast-front
