@@ -5,7 +5,8 @@ _tacho() {
   case "$COMP_CWORD ${COMP_WORDS[*]:1:COMP_CWORD-1}" in
     '1 ') words='minutes record serve download card view totals chart speeds show match format upgrade state demo help --help --version' ;;
     '2 minutes') words=2009 ;;
-    '2 serve') words='--hex packets' ;;
+    '2 serve') words='--hex packets card' ;;
+    '3 serve card') words='a b' ;;
     '2 match') words=all ;;
     '2 download') words='noisy packets' ;;
     '2 card') words='a b' ;;

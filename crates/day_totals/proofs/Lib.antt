@@ -1,4 +1,6 @@
 pub mod AddUp
+pub mod ByDay
 pub mod Counting
 pub mod Joining
+pub mod SameDays
 mod Rows

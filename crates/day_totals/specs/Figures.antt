@@ -42,9 +42,17 @@ figure_name Rest = codes "rest"
 figure_name Unknown = codes "unknown"
 figure_name In = codes "in"
 
+-- the day that a distance is told of
+abbrev pub day_told : Distance → ℕ
+day_told d = d.day
+
 -- the distance of a day: that of the first which is told of it
 abbrev pub distance_on : List Distance → (day : ℕ) → Option ℕ
 distance_on distances day = option_map (λ (d : Distance). d.km) (find (λ d. d.day == day) distances)
+
+-- the same is told of each day
+abbrev pub AreSameDistances : List Distance → List Distance → Type 0
+AreSameDistances distances other = (day : ℕ) → distance_on distances day ≡ distance_on other day
 
 -- how many minutes are known to be without a card
 abbrev pub out_total : List (Viewed Seen) → ℕ

@@ -1,10 +1,13 @@
 //! What is counted of the minutes of a day.
-ghost use Rattle.std.specs.Prelude.{◌≡◌, ◌≤◌, ◌==◌, length};
+ghost use Rattle.std.specs.Prelude.{◌≡◌, ◌≤◌, ◌==◌, IfOk, length};
+ghost use Rattle.std.specs.List.Sorted.{IsNonDecreasingBy};
 ghost use Rattle.file_view.specs.Histories.{minutes_on};
-ghost use Rattle.day_totals.specs.Figures.{counts, is_with_card, figure_name, total, line_total, distance_on};
+ghost use Rattle.day_totals.specs.Figures.{counts, is_with_card, figure_name, total, line_total};
+ghost use Rattle.day_totals.specs.Figures.{day_told, distance_on, AreSameDistances};
 
 use activity_codec::Activity;
 use slot_bars::Seen;
+use std::alloc::{AllocError, Global};
 use view_model::{Distance, Line};
 
 /// What is counted: an activity with a card in the slot, minutes that were not recorded, or minutes with a card in the
@@ -85,12 +88,29 @@ fn line_total(figure: Figure, bar: Line<Seen>) -> u64
     (bar.last as u64 + 1).saturating_sub(bar.first as u64)
 }
 
-/// The distance of a day, where one is told.
-pub fn distance_on(distances: &[Distance], day: u32) -> Option<u32>
+/// Distances by their days, those of a day in their order.
+///
+/// # Errors
+///
+/// `AllocError` where memory runs out.
+pub(crate) fn by_day(alloc: Global, distances: &[Distance]) -> Result<Vec<Distance>, AllocError>
+    ensures order { IfOk result (λ ordered. IsNonDecreasingBy day_told ordered.items) }
+    ensures same { IfOk result (λ ordered. AreSameDistances ordered.items distances.now) }
+{
+    let mut ordered = Vec::from_slice(alloc, distances)?;
+    ordered.sort_by_key(|distance| distance.day)?;
+    Ok(ordered)
+}
+
+/// The distance of a day, where one is told, among distances by their days.
+pub(crate) fn distance_on(distances: &[Distance], day: u32) -> Option<u32>
+    requires { IsNonDecreasingBy day_told distances.now }
     ensures { result ≡ distance_on distances.now day }
 {
-    distances
-        .iter()
-        .find(|distance| distance.day == day)
-        .map(|distance| distance.km)
+    let place = distances.partition_point(|distance| distance.day < day);
+    if place == distances.len() {
+        return None;
+    }
+    let told = distances[place];
+    if told.day == day { Some(told.km) } else { None }
 }

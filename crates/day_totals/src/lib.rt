@@ -7,6 +7,6 @@ mod laws;
 mod line;
 
 pub use days::{card_days_text, unit_days_text};
-pub use figures::{Figure, distance_on, minutes_in};
+pub use figures::{Figure, minutes_in};
 pub use laws::figures_add_up;
 pub use line::write_duration;

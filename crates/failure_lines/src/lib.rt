@@ -12,5 +12,5 @@ mod turned_away;
 
 pub use lack::put_missing;
 pub use lines::put_failures;
-pub use refusals::put_refusals;
+pub use refusals::{put_refusals, refusal_reason};
 pub use turned_away::put_turned_away;

@@ -1,5 +1,5 @@
 -- What is seen in minutes in a row.
-use Rattle.std.proofs.Common.{◌≡◌, ◌∙◌, ℕ, suc, zero, ◌+◌, ◌-◌, ◌≤◌, ◌&&◌, ◌||◌, not, Bool, true, false, List, [], ◌∷◌, ◌++◌, map, refl, ap, sym, arith, append_assoc, append-nil}
+use Rattle.std.proofs.Common.{◌≡◌, ◌∙◌, ℕ, suc, zero, ◌+◌, ◌-◌, ◌<◌, ◌≤◌, ◌||◌, not, Bool, true, false, List, [], ◌∷◌, ◌++◌, map, refl, ap, sym, arith, append_assoc, append-nil}
 use Rattle.std.specs.Prelude.{nat_le, nat_lt}
 use Rattle.std.specs.List.{range_with_len}
 use Rattle.std.proofs.lemmas.Bool.Decides.{nat_tests}
@@ -19,58 +19,55 @@ use Rattle.file_view.proofs.Growing.{viewed, row, run_parts}
 use Rattle.file_view.proofs.Lines.{bool_self, activity_self}
 use Rattle.view_model.specs.declared.marks.Gap.{Gap}
 use Rattle.slot_bars.specs.declared.seen.Seen.{Seen}
-use Rattle.slot_bars.specs.Seeing.{is_in_gap, meets_gap, state_in, slot_seen, card_seen, same_seen}
-use Rattle.slot_bars.specs.Runs.{is_plain, seen_run, as_unit}
+use Rattle.slot_bars.specs.Seeing.{is_in_gap, state_in, slot_seen, card_seen, same_seen}
+use Rattle.slot_bars.specs.Gaps.{AreSameGaps}
+use Rattle.slot_bars.specs.Runs.{as_unit}
 
 -- the same is seen in a minute and in itself
 pub seen_self : (s : Seen) → same_seen s s ≡ true
 seen_self s = rw (activity_self s.act, bool_self s.present, bool_self s.crew, bool_self s.known) refl
 
--- a minute that lies in a gap meets it
-gap_met : (gap : Gap) (first last m : ℕ) → first ≤ m → m ≤ last → (nat_le gap.first last && nat_lt first gap.behind) ≡ false → (nat_le gap.first m && nat_lt m gap.behind) ≡ false
-gap_met gap first last m low high none = grind (arith, nat_tests)
+-- minutes in a row in each of which the same is seen
+pub seen_row : (gaps : List Gap) (slot : Slot) (shown : UnitShown) (seen : Seen) (a n : ℕ) → ((m : ℕ) → a ≤ m → m < a + n → (slot_seen gaps slot (viewed shown m)).shown ≡ seen)
+    → map (slot_seen gaps slot) (row shown a n) ≡ row seen a n
+seen_row gaps slot shown seen a zero alike = refl
+seen_row gaps slot shown seen a (suc n) alike =
+    ap (λ (s : Seen). viewed s a ∷ map (slot_seen gaps slot) (row shown (a + 1) n)) (alike a (omega arith) (omega arith))
+    ∙ ap (λ (l : List (Viewed Seen)). viewed seen a ∷ l) (seen_row gaps slot shown seen (a + 1) n (λ m low high. alike m (omega arith) (omega (arith, high))))
 
-out_of_gap : (gaps : List Gap) (first last m : ℕ) → first ≤ m → m ≤ last → meets_gap gaps first last ≡ false → is_in_gap gaps m ≡ false
-out_of_gap [] first last m low high none = refl
-out_of_gap (gap ∷ gaps) first last m low high none =
-    by_test (nat_le gap.first last && nat_lt first gap.behind)
-    (λ met. let bad : true ≡ false = rw met at none in absurd (cc))
-    (λ apart.
-    let front = gap_met gap first last m low high apart in
-    let rest : meets_gap gaps first last ≡ false = rw apart at none in
-    rw front (out_of_gap gaps first last m low high rest))
+-- the same is seen where the same minutes lie in gaps
+pub seen_same : (gaps other : List Gap) → AreSameGaps gaps other → (slot : Slot) (minutes : List (Viewed UnitShown)) → map (slot_seen gaps slot) minutes ≡ map (slot_seen other slot) minutes
+seen_same gaps other same slot [] = refl
+seen_same gaps other same slot (m ∷ minutes) =
+    let seen : Bool → Viewed Seen = λ inside. record { minute = m.minute; shown = record { act = (state_in slot m.shown).act; present = (state_in slot m.shown).present; crew = m.shown.crew; known = (state_in slot m.shown).present || not inside } } in
+    ap (λ (v : Viewed Seen). v ∷ map (slot_seen gaps slot) minutes) (ap seen (same m.minute))
+    ∙ ap (λ (l : List (Viewed Seen)). slot_seen other slot m ∷ l) (seen_same gaps other same slot minutes)
 
--- so each minute of a plain line is seen as its first
-known_in : (gaps : List Gap) (slot : Slot) (line : Line UnitShown) (m : ℕ) → line.first ≤ m → m ≤ line.last → is_plain gaps slot line ≡ true
-    → ((state_in slot line.shown).present || not (is_in_gap gaps m)) ≡ true
-known_in gaps slot line m low high plain =
-    by_test (state_in slot line.shown).present
-    (λ there. rw there refl)
-    (λ absent.
-    let clear = (both (is_run line.first line.last) ((state_in slot line.shown).present || not (meets_gap gaps line.first line.last)) plain).1 in
-    let none : meets_gap gaps line.first line.last ≡ false = off (meets_gap gaps line.first line.last) (rw absent at clear) in
-    rw (absent, out_of_gap gaps line.first line.last m low high none) refl)
-  where
-    off : (b : Bool) → not b ≡ true → b ≡ false
-    off true is = absurd (cc)
-    off false is = refl
+-- a row is its front with the row behind it
+rows_join : {X : Type 0} → (shown : X) (a n m b k : ℕ) → b ≡ a + n → k ≡ n + m → row shown a k ≡ row shown a n ++ row shown b m
+rows_join shown a zero m b k place count =
+    let long : k ≡ m = omega (arith, count) in
+    let same : a ≡ b = omega (arith, place) in
+    ap (λ (j : ℕ). row shown a j) long ∙ ap (λ (i : ℕ). row shown i m) same
+rows_join {X} shown a (suc n) m b k place count =
+    let long : k ≡ suc (n + m) = omega (arith, count) in
+    ap (λ (j : ℕ). row shown a j) long
+    ∙ ap (λ (l : List (Viewed X)). viewed shown a ∷ l) (rows_join shown (a + 1) n m b (n + m) (omega (arith, place)) refl)
 
-plain_row : (gaps : List Gap) (slot : Slot) (line : Line UnitShown) (a n : ℕ) → line.first ≤ a → a + n ≤ line.last + 1 → line.first ≤ line.last → is_plain gaps slot line ≡ true
-    → map (slot_seen gaps slot) (row line.shown a n) ≡ row (seen_run gaps slot line).shown a n
-plain_row gaps slot line a zero low high some plain = refl
-plain_row gaps slot line a (suc n) low high some plain =
-    let here = known_in gaps slot line a low (omega arith) plain in
-    let first = known_in gaps slot line line.first (omega arith) some plain in
-    let seen : Bool → Viewed Seen = λ known. record { minute = a; shown = record { act = (state_in slot line.shown).act; present = (state_in slot line.shown).present; crew = line.shown.crew; known = known } } in
-    ap (λ (v : Viewed Seen). v ∷ map (slot_seen gaps slot) (row line.shown (a + 1) n)) (ap seen here ∙ sym (ap seen first))
-    ∙ ap (λ (l : List (Viewed Seen)). viewed (seen_run gaps slot line).shown a ∷ l) (plain_row gaps slot line (a + 1) n (omega arith) (omega arith) some plain)
-
-pub plain_minutes : (gaps : List Gap) (slot : Slot) (line : Line UnitShown) → is_plain gaps slot line ≡ true
-    → map (slot_seen gaps slot) (line_minutes line) ≡ line_minutes (seen_run gaps slot line)
-plain_minutes gaps slot line plain =
-    let parts = both (is_run line.first line.last) ((state_in slot line.shown).present || not (meets_gap gaps line.first line.last)) plain in
-    let some = (run_parts line.first line.last parts.0).0 in
-    plain_row gaps slot line line.first (line.last + 1 - line.first) (omega arith) (omega (arith, some)) some plain
+-- the minutes so far, with those of a part behind them
+pub part_more : (gaps : List Gap) (slot : Slot) (shown : UnitShown) (part : Line Seen) (a from : ℕ) → a ≤ from → part.first ≡ from → from ≤ part.last
+    → ((m : ℕ) → from ≤ m → m ≤ part.last → (slot_seen gaps slot (viewed shown m)).shown ≡ part.shown)
+    → map (slot_seen gaps slot) (row shown a (from - a)) ++ line_minutes part ≡ map (slot_seen gaps slot) (row shown a (part.last + 1 - a))
+part_more gaps slot shown part a from begun first some alike =
+    let see = slot_seen gaps slot in
+    let front : List (Viewed UnitShown) = row shown a (from - a) in
+    let place : from ≡ a + (from - a) = omega (arith, begun) in
+    let count : part.last + 1 - a ≡ from - a + (part.last + 1 - from) = omega (arith, begun, some) in
+    ap (λ (k : ℕ). map (slot_seen gaps slot) (row shown a (from - a)) ++ row part.shown k (part.last + 1 - k)) first
+    ∙ ap (λ (l : List (Viewed Seen)). map (slot_seen gaps slot) (row shown a (from - a)) ++ l)
+    (sym (seen_row gaps slot shown part.shown from (part.last + 1 - from) (λ m low high. alike m low (omega (arith, high, some)))))
+    ∙ sym (map-append see front (row shown from (part.last + 1 - from)))
+    ∙ ap (λ (l : List (Viewed UnitShown)). map (slot_seen gaps slot) l) (sym (rows_join shown a (from - a) (part.last + 1 - from) from (part.last + 1 - a) place count))
 
 -- one minute more of a row
 pub slot_more : (gaps : List Gap) (slot : Slot) (shown : UnitShown) (a n j : ℕ) → a + n ≡ j

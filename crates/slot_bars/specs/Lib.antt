@@ -1,5 +1,6 @@
 pub mod Exact
 pub mod Seeing
+pub mod Gaps
 pub mod Runs
 pub mod DaysOf
 pub mod DayLines

@@ -18,10 +18,6 @@ use Rattle.slot_bars.specs.declared.seen.Seen.{Seen}
 abbrev pub is_in_gap : List Gap → ℕ → Bool
 is_in_gap gaps minute = list_any (λ gap. nat_le gap.first minute && nat_lt minute gap.behind) gaps
 
--- a minute from one to another may lie in one of these gaps
-abbrev pub meets_gap : List Gap → (first last : ℕ) → Bool
-meets_gap gaps first last = list_any (λ gap. nat_le gap.first last && nat_lt first gap.behind) gaps
-
 -- the state of a slot
 abbrev pub state_in : Slot → UnitShown → State
 state_in Driver shown = shown.driver

@@ -1,21 +1,22 @@
 //! The bars of a slot, of the lines of a view.
-ghost use Rattle.std.specs.Prelude.{◌≡◌, ◌++◌, true, List, map, IfOk, OnOk};
+ghost use Rattle.std.specs.Prelude.{◌≡◌, ◌≤◌, ◌++◌, ℕ, [], true, List, map, IfOk, OnOk};
 ghost use Rattle.view_model.specs.declared.Viewed.{Viewed as ViewedMinute};
 ghost use Rattle.file_view.specs.Histories.{line_minutes, minutes_on};
 ghost use Rattle.slot_bars.specs.Seeing.{bars_of, slot_seen, card_seen, state_in};
 ghost use Rattle.file_view.specs.Runs.{is_run};
-ghost use Rattle.slot_bars.specs.Runs.{is_plain, seen_run, as_unit};
+ghost use Rattle.slot_bars.specs.Runs.{is_known, as_unit};
 ghost use Rattle.slot_bars.specs.declared.seen.Seen.{Seen as MinuteSeen};
 
-use crate::seen::{Seen, meets_gap, slot_seen, state_in};
+use crate::gaps::Gaps;
+use crate::seen::{Seen, slot_seen, state_in};
 use activity_codec::{Activity, DAY_MINUTES, Slot};
 use file_view::add_run;
 use std::alloc::{AllocError, Global};
-use view_model::{CardShown, Gap, Line, State, UnitShown, Viewed};
+use view_model::{CardShown, Line, State, UnitShown, Viewed};
 use view_text::add_minute;
 
 /// The bars of a slot of a unit, by the lines of its view. A line goes in at once, but for one without a card that
-/// meets a gap, which goes in minute by minute.
+/// meets a gap, which goes in by the parts that lie in one or in none.
 ///
 /// # Errors
 ///
@@ -23,7 +24,7 @@ use view_text::add_minute;
 pub fn unit_bars(
     alloc: Global,
     lines: &[Line<UnitShown>],
-    gaps: &[Gap],
+    gaps: &Gaps,
     slot: Slot,
 ) -> Result<Vec<Line<Seen>>, AllocError>
     ensures { IfOk result (λ bars. bars.items ≡ bars_of (map (slot_seen gaps.now slot) (minutes_on lines.now))) }
@@ -44,8 +45,9 @@ pub fn card_bars(alloc: Global, lines: &[Line<CardShown>]) -> Result<Vec<Line<Se
     ensures { IfOk result (λ bars. bars.items ≡ bars_of (map card_seen (minutes_on lines.now))) }
 {
     let mut bars = Vec::new(alloc);
+    let none = Gaps::none(alloc);
     for line in lines {
-        add_card_line(&mut bars, *line)?;
+        add_card_line(&mut bars, *line, &none)?;
     }
     Ok(bars)
 }
@@ -54,14 +56,14 @@ pub fn card_bars(alloc: Global, lines: &[Line<CardShown>]) -> Result<Vec<Line<Se
 fn add_line(
     bars: &mut Vec<Line<Seen>>,
     line: Line<UnitShown>,
-    gaps: &[Gap],
+    gaps: &Gaps,
     slot: Slot,
 ) -> Result<(), AllocError>
     ensures { (minutes : List (ViewedMinute MinuteSeen)) → bars.old.items ≡ bars_of minutes
         → OnOk result (bars.new.items ≡ bars_of (minutes ++ map (slot_seen gaps.now slot) (line_minutes line))) }
 {
-    if is_plain(line, gaps, slot) {
-        add_run(bars, seen_run(line, gaps, slot))?;
+    if is_run(line.first, line.last) {
+        add_parts(bars, line, gaps, slot)?;
         return Ok(());
     }
     for minute in line.first as u64..line.last as u64 + 1 {
@@ -71,12 +73,70 @@ fn add_line(
     Ok(())
 }
 
+/// Adds the minutes of a line that are some, and of one day, by parts in each of which the same is seen.
+fn add_parts(
+    bars: &mut Vec<Line<Seen>>,
+    line: Line<UnitShown>,
+    gaps: &Gaps,
+    slot: Slot,
+) -> Result<(), AllocError>
+    requires { is_run line.first line.last ≡ true }
+    ensures { (minutes : List (ViewedMinute MinuteSeen)) → bars.old.items ≡ bars_of minutes
+        → OnOk result (bars.new.items ≡ bars_of (minutes ++ map (slot_seen gaps.now slot) (line_minutes line))) }
+{
+    let mut from = line.first as u64;
+    'parts: while from <= line.last as u64 {
+        let part = part_from(line, from as u32, gaps, slot);
+        add_run(bars, part)?;
+        from = part.last as u64 + 1;
+    }
+    Ok(())
+}
+
+/// The minutes of a line from one on in which the same is seen of a slot, as it is seen.
+fn part_from(line: Line<UnitShown>, from: u32, gaps: &Gaps, slot: Slot) -> Line<Seen>
+    requires { from ≤ line.last }
+    ensures first { result.first ≡ from }
+    ensures inside { (from ≤ result.last) × (result.last ≤ line.last) }
+    ensures seen { (m : ℕ) → from ≤ m → m ≤ result.last
+        → (slot_seen gaps.now slot (record { minute = m; shown = line.shown })).shown ≡ result.shown }
+{
+    let viewed = viewed_at(line, from);
+    let seen = slot_seen(gaps, slot, viewed);
+    let last = last_alike(line, from, gaps, slot);
+    Line {
+        first: from,
+        last,
+        shown: seen.shown,
+    }
+}
+
+/// The last of them.
+fn last_alike(line: Line<UnitShown>, from: u32, gaps: &Gaps, slot: Slot) -> u32
+    requires { from ≤ line.last }
+    ensures inside { (from ≤ result) × (result ≤ line.last) }
+    ensures alike { (m : ℕ) → from ≤ m → m ≤ result
+        → is_known gaps.now (state_in slot line.shown) m ≡ is_known gaps.now (state_in slot line.shown) from }
+{
+    let state = state_in(slot, line.shown);
+    if state.present {
+        return line.last;
+    }
+    let last = gaps.last_alike(from);
+    last.min(line.last)
+}
+
 /// Adds the minutes of a line of a card, which a unit would show with the card in its driver slot.
-fn add_card_line(bars: &mut Vec<Line<Seen>>, line: Line<CardShown>) -> Result<(), AllocError>
+fn add_card_line(
+    bars: &mut Vec<Line<Seen>>,
+    line: Line<CardShown>,
+    gaps: &Gaps,
+) -> Result<(), AllocError>
+    requires { gaps.now ≡ [] }
     ensures { (minutes : List (ViewedMinute MinuteSeen)) → bars.old.items ≡ bars_of minutes
         → OnOk result (bars.new.items ≡ bars_of (minutes ++ map card_seen (line_minutes line))) }
 {
-    add_line(bars, as_unit(line), &[], Slot::Driver)?;
+    add_line(bars, as_unit(line), gaps, Slot::Driver)?;
     Ok(())
 }
 
@@ -116,24 +176,4 @@ fn is_run(first: u32, last: u32) -> bool
     ensures { result ≡ is_run first last }
 {
     first <= last && first / DAY_MINUTES == last / DAY_MINUTES
-}
-
-/// Whether the same is seen of a slot in each minute of a line, which are some, and of one day.
-fn is_plain(line: Line<UnitShown>, gaps: &[Gap], slot: Slot) -> bool
-    ensures { result ≡ is_plain gaps.now slot line }
-{
-    is_run(line.first, line.last)
-        && (state_in(slot, line.shown).present || !meets_gap(gaps, line.first, line.last))
-}
-
-/// A line as a slot is seen in its first minute.
-fn seen_run(line: Line<UnitShown>, gaps: &[Gap], slot: Slot) -> Line<Seen>
-    ensures { result ≡ seen_run gaps.now slot line }
-{
-    let first = slot_seen(gaps, slot, viewed_at(line, line.first));
-    Line {
-        first: line.first,
-        last: line.last,
-        shown: first.shown,
-    }
 }

@@ -4,8 +4,10 @@
 
 mod bars;
 mod days;
+mod gaps;
 mod seen;
 
 pub use bars::{card_bars, unit_bars};
 pub use days::{day_number, first_day};
+pub use gaps::Gaps;
 pub use seen::Seen;

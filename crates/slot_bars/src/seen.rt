@@ -1,10 +1,11 @@
 //! What is seen of one slot in a minute.
 ghost use Rattle.std.specs.Prelude.{◌≡◌, ◌++◌, OnOk};
-ghost use Rattle.slot_bars.specs.Seeing.{is_in_gap, meets_gap, state_in, slot_seen, beside_words};
+ghost use Rattle.slot_bars.specs.Seeing.{state_in, slot_seen, beside_words};
 
+use crate::gaps::Gaps;
 use activity_codec::{Activity, Slot, is_same_activity};
 use std::alloc::AllocError;
-use view_model::{Gap, State, UnitShown, Viewed};
+use view_model::{State, UnitShown, Viewed};
 use view_text::Shown;
 
 /// What is seen of one slot in a minute.
@@ -70,29 +71,13 @@ pub(crate) fn state_in(slot: Slot, shown: UnitShown) -> State
     }
 }
 
-/// Whether a minute lies in a gap.
-pub(crate) fn is_in_gap(gaps: &[Gap], minute: u32) -> bool
-    ensures { result ≡ is_in_gap gaps.now minute }
-{
-    gaps.iter()
-        .any(|gap| gap.first <= minute && minute < gap.behind)
-}
-
-/// Whether a minute from one to another lies in a gap.
-pub(crate) fn meets_gap(gaps: &[Gap], first: u32, last: u32) -> bool
-    ensures { result ≡ meets_gap gaps.now first last }
-{
-    gaps.iter()
-        .any(|gap| gap.first <= last && first < gap.behind)
-}
-
 /// What is seen of a slot.
-pub(crate) fn slot_seen(gaps: &[Gap], slot: Slot, minute: Viewed<UnitShown>) -> Viewed<Seen>
+pub(crate) fn slot_seen(gaps: &Gaps, slot: Slot, minute: Viewed<UnitShown>) -> Viewed<Seen>
     ensures { result ≡ slot_seen gaps.now slot minute }
 {
     let state = state_in(slot, minute.shown);
     let crew = minute.shown.crew;
-    let known = state.present || !is_in_gap(gaps, minute.minute);
+    let known = state.present || !gaps.is_in(minute.minute);
     Viewed {
         minute: minute.minute,
         shown: Seen {

@@ -21,6 +21,7 @@ help_text = as_lines (
     codes "tacho serve                              answer a downloader's frames" ∷
     codes "tacho serve --hex                        answer frames that are lines of hexadecimal digits" ∷
     codes "tacho serve packets                      answer a downloader's packets, which may be lost and repeated" ∷
+    codes "tacho serve card a|b                     let a card answer the commands that come as packets" ∷
     codes "tacho download > FILE                    write the unit's file" ∷
     codes "tacho download noisy X > FILE            write it over a link that loses and repeats, drawn from X" ∷
     codes "tacho download packets                   ask a unit by packets, and write its file to unit.ddd" ∷

@@ -17,6 +17,7 @@ pub mod Formatting
 pub mod Upgrading
 pub mod State
 pub mod Serving
+pub mod ServingCard
 pub mod Downloading
 pub mod Packets
 pub mod View

@@ -4,7 +4,7 @@ ghost use Rattle.std.specs.List.{list_all};
 ghost use Rattle.tacho_types.specs.Texts.{padded_text};
 ghost use Rattle.tacho.specs.Texts.{is_character, is_word, begins_with_dash, word_in, number_in};
 ghost use Rattle.tacho.specs.Forms.{name_in, card_in, registration_in, unit_in, reading_of, form_of_one, form_of_two};
-ghost use Rattle.tacho.specs.Forms.{file_of, demo_of, last_in, days_form, last_form, speeds_of, noisy_of};
+ghost use Rattle.tacho.specs.Forms.{file_of, demo_of, last_in, days_form, last_form, speeds_of, noisy_of, slot_of};
 ghost use Rattle.tacho.specs.Forms.{form_of_three, format_of, form_of_six, form_of};
 
 use crate::words::Words;
@@ -76,6 +76,8 @@ pub enum Form {
     /// `download noisy X`: the same over a link that loses, repeats and delays, as it is drawn from this number, from 0
     /// to 2147483647.
     DownloadNoisy { seed: u32 },
+    /// `serve card a` and `serve card b`: the card answers the commands that come as packets.
+    ServeCard { card: Card },
     /// `download packets`: the loader's end of a link of packets; the unit's file goes to a file.
     DownloadPackets,
     /// What a file tells is printed: it is read to its end first.
@@ -250,6 +252,9 @@ fn form_of_three(command: &str, which: &str, count: &str) -> Option<Form>
     if is_text(command, "speeds") {
         return speeds_of(which, count);
     }
+    if is_text(command, "serve") {
+        return slot_of(which, count);
+    }
     last_form(command, which, count)
 }
 
@@ -260,6 +265,17 @@ fn noisy_of(which: &str, seed: &str) -> Option<Form>
     if is_text(which, "noisy") {
         let seed = number(seed, 0, SEED_MOST)?;
         return Some(Form::DownloadNoisy { seed });
+    }
+    None
+}
+
+/// Which card is to answer commands.
+fn slot_of(what: &str, letter: &str) -> Option<Form>
+    ensures { result ≡ slot_of what.now letter.now }
+{
+    if is_text(what, "card") {
+        let card = Card::named(letter.as_bytes())?;
+        return Some(Form::ServeCard { card });
     }
     None
 }

@@ -15,6 +15,7 @@ tacho record < TRACE                     record a trace on unit.img, card-a.img 
 tacho serve                              answer a downloader's frames
 tacho serve --hex                        answer frames that are lines of hexadecimal digits
 tacho serve packets                      answer a downloader's packets, which may be lost and repeated
+tacho serve card a|b                     let a card answer the commands that come as packets
 tacho download > FILE                    write the unit's file
 tacho download noisy X > FILE            write it over a link that loses and repeats, drawn from X
 tacho download packets                   ask a unit by packets, and write its file to unit.ddd

@@ -32,6 +32,7 @@ mod record_command;
 mod report_command;
 mod serve_command;
 mod show_command;
+mod slot_command;
 mod sources;
 mod state_command;
 mod telling;

@@ -23,6 +23,14 @@ over_speeding = refl
 gained : distances_of (record { date = 86400; odometer = 1000 } ∷ record { date = 259200; odometer = 1412 } ∷ record { date = 345600; odometer = 5 } ∷ []) ≡ record { day = 1; km = 412 } ∷ []
 gained = refl
 
+-- wherever the next day stands, and of a date that is told twice by its first telling
+newest_first : distances_of (record { date = 259200; odometer = 1412 } ∷ record { date = 86400; odometer = 1000 } ∷ []) ≡ record { day = 1; km = 412 } ∷ []
+newest_first = refl
+
+told_twice : distances_of (record { date = 86400; odometer = 1000 } ∷ record { date = 172800; odometer = 1100 } ∷ record { date = 86400; odometer = 1050 } ∷ record { date = 172800; odometer = 1300 } ∷ [])
+    ≡ record { day = 1; km = 100 } ∷ []
+told_twice = refl
+
 -- places behind their pointer: the work period begins at 07:00 of 2010-03-01, in the country 13; the second place was never written
 places : file_marks (record { fid = 0x0506; kind = 0; value = 0 ∷ 0x4b ∷ 0x8b ∷ 0x65 ∷ 0xf0 ∷ 0 ∷ 13 ∷ 2 ∷ 0 ∷ 0 ∷ 0 ∷ 0 ∷ 0 ∷ 0 ∷ 0 ∷ 0 ∷ 0 ∷ 0 ∷ 0 ∷ 0 ∷ 0 ∷ [] })
     ≡ record { sign = Begin; code = 13; second = 1267426800 } ∷ []

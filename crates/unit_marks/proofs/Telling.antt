@@ -6,7 +6,7 @@ use Rattle.unit_messages.specs.Reading.{request_of}
 use Rattle.view_model.specs.declared.marks.Gap.{Gap}
 use Rattle.file_view.specs.UnitFiles.{days_told}
 use Rattle.unit_marks.specs.declared.marks.Midnight.{Midnight}
-use Rattle.unit_marks.specs.Marks.{gap_of, gaps_of, gaps_told, midnight_of, gained, distances_of}
+use Rattle.unit_marks.specs.Marks.{gap_of, gaps_of, gaps_told, midnight_of, gained, gains_of}
 
 pub gaps_more : (ms : List Message) (m : Message) → gaps_told (ms ++ m ∷ []) ≡ gaps_told ms ++ gaps_told (m ∷ [])
 gaps_more [] m = refl
@@ -55,12 +55,12 @@ no_day_asked (ASpeedList x) none = refl
 no_day_asked (ATechnical x) none = refl
 
 -- what the first of some midnights tells, and that of one alone
-pub first_gained : (rest : List Midnight) (d : Midnight) → 1 < length rest → distances_of rest ≡ gained (get_or rest 0 d) (get_or rest 1 d) ++ distances_of (drop 1 rest)
+pub first_gained : (rest : List Midnight) (d : Midnight) → 1 < length rest → gains_of rest ≡ gained (get_or rest 0 d) (get_or rest 1 d) ++ gains_of (drop 1 rest)
 first_gained [] d long = absurd (omega arith)
 first_gained (day ∷ []) d long = absurd (omega arith)
 first_gained (day ∷ next ∷ rest) d long = refl
 
-pub none_gained : (rest : List Midnight) → length rest ≤ 1 → distances_of rest ≡ []
+pub none_gained : (rest : List Midnight) → length rest ≤ 1 → gains_of rest ≡ []
 none_gained [] short = refl
 none_gained (day ∷ []) short = refl
 none_gained (day ∷ next ∷ rest) short = absurd (omega (arith, short))

@@ -1,3 +1,4 @@
 pub mod Marks
+pub mod Sorted
 pub mod Entries
 pub mod Cards

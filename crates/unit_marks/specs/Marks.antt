@@ -56,12 +56,28 @@ gained day next =
     then record { day = day.date / 86400; km = next.odometer - day.odometer } ∷ []
     else []
 
--- THE DISTANCES of days: what the odometer gained until the next midnight that is told, where that is later and the
--- odometer no less
+-- midnights by their dates, with one that is told before them: it takes the place of one of its date
+abbrev pub with_midnight : Midnight → List Midnight → List Midnight
+with_midnight day [] = day ∷ []
+with_midnight day (next ∷ days) =
+    if nat_lt day.date next.date then day ∷ next ∷ days
+    else (if day.date == next.date then day ∷ days else next ∷ with_midnight day days)
+
+-- THE MIDNIGHTS that are told, by their dates: each date once, by its first telling
+abbrev pub by_date : List Midnight → List Midnight
+by_date [] = []
+by_date (day ∷ days) = with_midnight day (by_date days)
+
+-- what the odometer gained from each midnight to the one behind it
+abbrev pub gains_of : List Midnight → List Distance
+gains_of [] = []
+gains_of (day ∷ []) = []
+gains_of (day ∷ next ∷ days) = gained day next ++ gains_of (next ∷ days)
+
+-- THE DISTANCES of days: what the odometer gained until the midnight of the least later date that is told, wherever it
+-- stands, where the odometer is no less then
 abbrev pub distances_of : List Midnight → List Distance
-distances_of [] = []
-distances_of (day ∷ []) = []
-distances_of (day ∷ next ∷ days) = gained day next ++ distances_of (next ∷ days)
+distances_of midnights = gains_of (by_date midnights)
 
 -- the bytes are a unit file that tells these gaps and distances
 pub record TellsMarks (bytes : List ℕ) (gaps : List Gap) (distances : List Distance) : Type 0 where

@@ -8,6 +8,8 @@ ghost use Rattle.file_view.specs.Faults.{IfBadFile};
 ghost use Rattle.file_view.specs.UnitFiles.{IsBadUnitFile, days_told};
 ghost use Rattle.file_view.specs.Places.{ArePlaced, IsPlaced};
 ghost use Rattle.unit_marks.specs.Marks.{TellsMarks, gap_of, gaps_of, gaps_told, midnight_of, gained, distances_of};
+ghost use Rattle.unit_marks.specs.Marks.{by_date, gains_of};
+ghost use Rattle.unit_marks.specs.Sorted.{firsts_from};
 ghost use Rattle.unit_marks.specs.Marks.{whole_minutes};
 
 use activity_codec::DAY_SECONDS;
@@ -178,9 +180,43 @@ fn whole_minutes(begin: u32, end: u32) -> Gap
     }
 }
 
-/// The distances of days between midnights.
+/// The distances of days: each to the midnight of the least later date.
 fn distances_of(alloc: Global, midnights: &[Midnight]) -> Result<Vec<Distance>, AllocError>
     ensures { IfOk result (λ distances. distances.items ≡ distances_of midnights.now) }
+{
+    let days = by_date(alloc, midnights)?;
+    gains_of(alloc, days.as_slice())
+}
+
+/// Midnights by their dates, each date once, by its first telling.
+fn by_date(alloc: Global, midnights: &[Midnight]) -> Result<Vec<Midnight>, AllocError>
+    ensures { IfOk result (λ days. days.items ≡ by_date midnights.now) }
+{
+    let mut told = Vec::from_slice(alloc, midnights)?;
+    told.sort_by_key(|midnight| midnight.date)?;
+    let days = firsts(alloc, told.as_slice())?;
+    Ok(days)
+}
+
+/// The first of each date, of midnights by their dates.
+fn firsts(alloc: Global, told: &[Midnight]) -> Result<Vec<Midnight>, AllocError>
+    ensures { IfOk result (λ days. days.items ≡ firsts_from 0 told.now) }
+{
+    let mut days = Vec::new(alloc);
+    let mut least = 0u64;
+    for midnight in told {
+        if (midnight.date as u64) < least {
+            continue;
+        }
+        days.push(*midnight)?;
+        least = midnight.date as u64 + 1;
+    }
+    Ok(days)
+}
+
+/// What the odometer gained from each midnight to the one behind it.
+fn gains_of(alloc: Global, midnights: &[Midnight]) -> Result<Vec<Distance>, AllocError>
+    ensures { IfOk result (λ distances. distances.items ≡ gains_of midnights.now) }
 {
     let mut distances = Vec::new(alloc);
     let mut rest = midnights;

@@ -1,5 +1,5 @@
 use activity_codec::{Activity, Slot};
-use slot_bars::unit_bars;
+use slot_bars::{Gaps, unit_bars};
 use std::process::Abort;
 use std::test::Fail;
 use view_model::{Gap, Line, State, UnitShown};
@@ -27,10 +27,15 @@ fn bars_of_a_day_with_a_gap(rt: HostRuntime) -> Result<(), Fail> {
         line(60, 119, Activity::Rest, false),
         line(120, 1439, Activity::Work, true),
     ];
-    let gaps = [Gap {
+    let inner = Gap {
+        first: 72,
+        behind: 74,
+    };
+    let outer = Gap {
         first: 70,
         behind: 80,
-    }];
+    };
+    let gaps = Gaps::of(rt.alloc(), &[inner, outer])?;
     let driver = unit_bars(rt.alloc(), &lines, &gaps, Slot::Driver)?;
     assert_eq!(rt; driver.len(), 5);
     assert_eq!(rt; driver[2].first, 70);

@@ -8,7 +8,7 @@ use Rattle.day_totals.proofs.days.card_days_text.Given as goal
 abbrev pub invariant-days : goal.invariant-days
 invariant-days l = record {
   lines : AreDayLines l.rest;
-  far : (place : ℕ) × IsSoFar (λ place date day. card_day_text l.distances date day) l.fn.lines place l.rest l.text.items;
+  far : (place : ℕ) × IsSoFar (λ place date day. card_day_text l.fn.distances date day) l.fn.lines place l.rest l.text.items;
 }
 
 abbrev pub decreases-days : goal.decreases-days

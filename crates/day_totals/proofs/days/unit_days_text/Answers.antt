@@ -1,4 +1,4 @@
-use Rattle.std.proofs.Common.{ℕ, ◌+◌, List, length, ap, sym, subst, arith, length-drop}
+use Rattle.std.proofs.Common.{◌∙◌, ℕ, ◌+◌, List, ◌++◌, length, ap, sym, subst, arith, length-drop}
 use Rattle.view_model.specs.declared.UnitShown.{UnitShown}
 use Rattle.view_model.specs.declared.Viewed.{Viewed}
 use Rattle.view_model.specs.declared.Line.{Line}
@@ -6,6 +6,9 @@ use Rattle.view_model.specs.Lines.{same_unit}
 use Rattle.slot_bars.specs.DayLines.{AreDayLines, IsOneDay}
 use Rattle.slot_bars.proofs.DayRuns.{are_dated}
 use Rattle.slot_bars.proofs.EachDay.{begun, one_more, all_days, split_days, none_left}
+use Rattle.file_view.specs.Histories.{minutes_on}
+use Rattle.day_totals.specs.Figures.{AreSameDistances}
+use Rattle.day_totals.proofs.SameDays.{unit_same}
 use Rattle.day_totals.specs.Text.{unit_day_text, IsUnitTotals}
 use Rattle.day_totals.proofs.days.unit_days_text.Goals as goal
 
@@ -17,8 +20,11 @@ days-init c =
       far = (0, begun piece c.args.lines.now c.new-text.result.items c.new-text.ensures.items);
     }
 
-pub write_unit_day-requires : goal.write_unit_day-requires
-write_unit_day-requires c = subst (λ (l : List (Line UnitShown)). IsOneDay l) (sym c.split_at.ensures.front) c.first_day.ensures.one
+pub write_unit_day-requires-clause-day : goal.write_unit_day-requires-clause-day
+write_unit_day-requires-clause-day c = subst (λ (l : List (Line UnitShown)). IsOneDay l) (sym c.split_at.ensures.front) c.first_day.ensures.one
+
+pub write_unit_day-requires-clause-order : goal.write_unit_day-requires-clause-order
+write_unit_day-requires-clause-order c = rw c.as_slice.ensures.value c.in_ok-told.ensures.order
 
 pub days-smaller : goal.days-smaller
 days-smaller c =
@@ -29,10 +35,11 @@ days-preserved c =
     let piece : ℕ → List ℕ → List (Viewed UnitShown) → List ℕ = λ place date day. unit_day_text c.args.gaps.now c.args.distances.now date day in
     let far = c.days.invariant.far in
     let wrote = c.in_ok-write_unit_day.ensures in
+    let same : AreSameDistances c.as_slice.result.now c.args.distances.now = rw c.as_slice.ensures.value c.in_ok-told.ensures.same in
     let split = split_days c.days.rest.now c.split_at.result.0.now c.split_at.result.1.now c.first_day.result c.split_at.ensures.front c.split_at.ensures.back c.first_day.ensures.days in
     record {
       lines = subst (λ (l : List (Line UnitShown)). AreDayLines l) (sym c.split_at.ensures.back) c.first_day.ensures.more;
-      far = (far.0 + 1, one_more piece c.args.lines.now far.0 c.days.rest.now c.split_at.result.0.now c.split_at.result.1.now c.days.text.items c.write_unit_day.new.text.items wrote.0 split far.1 wrote.1 wrote.2);
+      far = (far.0 + 1, one_more piece c.args.lines.now far.0 c.days.rest.now c.split_at.result.0.now c.split_at.result.1.now c.days.text.items c.write_unit_day.new.text.items wrote.0 split far.1 wrote.1 (wrote.2 ∙ ap (λ (l : List ℕ). c.days.text.items ++ l) (unit_same _ c.args.gaps.now _ c.args.distances.now c.in_ok-in_order.ensures same wrote.0 (minutes_on c.split_at.result.0.now))));
     }
 
 pub returns : goal.returns

@@ -8,7 +8,7 @@ use Rattle.day_totals.proofs.days.unit_days_text.Given as goal
 abbrev pub invariant-days : goal.invariant-days
 invariant-days l = record {
   lines : AreDayLines l.rest;
-  far : (place : ℕ) × IsSoFar (λ place date day. unit_day_text l.gaps l.distances date day) l.fn.lines place l.rest l.text.items;
+  far : (place : ℕ) × IsSoFar (λ place date day. unit_day_text l.fn.gaps l.fn.distances date day) l.fn.lines place l.rest l.text.items;
 }
 
 abbrev pub decreases-days : goal.decreases-days

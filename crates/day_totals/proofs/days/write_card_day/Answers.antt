@@ -6,7 +6,7 @@ use Rattle.day_totals.proofs.Counting.{bars_stand, bars_few}
 use Rattle.day_totals.proofs.days.write_card_day.Goals as goal
 
 pub write_totals-requires : goal.write_totals-requires
-write_totals-requires c = rw c.as_slice-2.ensures.value (bars_few card_seen (minutes_on c.args.lines.now) c.in_ok-bars.bars.items c.in_ok-bars.ensures c.requires.few)
+write_totals-requires c = rw c.as_slice-2.ensures.value (bars_few card_seen (minutes_on c.args.lines.now) c.in_ok-bars.bars.items c.in_ok-bars.ensures c.requires.day.few)
 
 pub returns : goal.returns
 returns c =

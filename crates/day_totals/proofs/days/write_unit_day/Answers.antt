@@ -7,10 +7,10 @@ use Rattle.day_totals.proofs.Counting.{bars_stand, bars_few}
 use Rattle.day_totals.proofs.days.write_unit_day.Goals as goal
 
 pub write_totals-requires : goal.write_totals-requires
-write_totals-requires c = rw c.as_slice-2.ensures.value (bars_few (slot_seen c.args.gaps.now Driver) (minutes_on c.args.lines.now) c.in_ok-driver.driver.items c.in_ok-driver.ensures c.requires.few)
+write_totals-requires c = rw c.as_slice-2.ensures.value (bars_few (slot_seen c.args.gaps.now Driver) (minutes_on c.args.lines.now) c.in_ok-driver.driver.items c.in_ok-driver.ensures c.requires.day.few)
 
 pub write_totals-requires-2 : goal.write_totals-requires-2
-write_totals-requires-2 c = rw c.as_slice-4.ensures.value (bars_few (slot_seen c.args.gaps.now CoDriver) (minutes_on c.args.lines.now) c.in_ok-codriver.codriver.items c.in_ok-codriver.ensures c.requires.few)
+write_totals-requires-2 c = rw c.as_slice-4.ensures.value (bars_few (slot_seen c.args.gaps.now CoDriver) (minutes_on c.args.lines.now) c.in_ok-codriver.codriver.items c.in_ok-codriver.ensures c.requires.day.few)
 
 pub returns : goal.returns
 returns c =
