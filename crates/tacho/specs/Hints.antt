@@ -50,12 +50,13 @@ last_hint command =
     else (if bytes_eq command (codes "view") || bytes_eq command (codes "totals") || bytes_eq command (codes "chart")
     || bytes_eq command (codes "show") then Days else command_hint command)
 
--- three words: one more than a form that reads a file; `last N`; `download noisy X`
+-- three words: one more than a form that reads a file; `last N`; `download noisy X`; `serve card` and no card
 abbrev pub hint_of_three : (command which : List ℕ) → Hint
 hint_of_three command which =
     if takes_names (form_of_two command which) then OneMore
     else (if bytes_eq which (codes "last") then last_hint command
-    else (if bytes_eq command (codes "download") && bytes_eq which (codes "noisy") then Seed else command_hint command))
+    else (if bytes_eq command (codes "download") && bytes_eq which (codes "noisy") then Seed
+    else (if bytes_eq command (codes "serve") && bytes_eq which (codes "card") then Cards else command_hint command)))
 
 -- two words: one more than a form that reads a file; `card` and no card; `demo X`
 abbrev pub hint_of_two : (command : List ℕ) → Hint

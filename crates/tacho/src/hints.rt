@@ -96,6 +96,9 @@ fn hint_of_three(command: &str, which: &str) -> Hint
     if is_text(command, "download") && is_text(which, "noisy") {
         return Hint::Seed;
     }
+    if is_text(command, "serve") && is_text(which, "card") {
+        return Hint::Cards;
+    }
     command_hint(command)
 }
 
