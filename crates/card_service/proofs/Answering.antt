@@ -4,14 +4,14 @@ use Rattle.std.specs.List.{AllByRecursion}
 use Rattle.std.specs.Io.KnownBytes.{Appends}
 use Rattle.std.proofs.KnownBytes.{Appends-nil, Appends-trans}
 use Rattle.std.proofs.Math.Seq.{take-append-add}
-use Rattle.std.proofs.lemmas.List.{take_more}
+use Rattle.std.proofs.lemmas.List.{take_more, take-append-drop}
 use Rattle.std.specs.Prelude.{IsErrAnd}
 use Rattle.tach_media.proofs.Runs.{err_is}
 use Rattle.card_service.specs.declared.serving.CardFault.{CardFault}
 use Rattle.card_service.specs.declared.packets.TheConstants.{LONGEST}
 use Rattle.card_service.specs.Packets.{stream_of, is_whole}
-use Rattle.card_service.specs.Answering.{Card, Hears, Serves}
-use Rattle.card_service.specs.Serving.{IsServing, StopsAt, Serving, ServingAll, IsHeard}
+use Rattle.card_service.specs.Answering.{Card, Hears, Serves, LeavesAt}
+use Rattle.card_service.specs.Serving.{IsServing, StopsAt, Serving, ServingAll, IsHeard, Leaves}
 use Rattle.card_service.proofs.Parts.{part_more, part_whole, stream_on, streams_on}
 
 each_on : (packets : List (List ℕ)) (p : List ℕ) → AllByRecursion (λ e. length e ≤ LONGEST) packets → length p ≤ LONGEST → AllByRecursion (λ e. length e ≤ LONGEST) (packets ++ p ∷ [])
@@ -64,6 +64,19 @@ module _ (begun : Card) (held : Option (List ℕ)) (came part : List ℕ) (byte 
     spelled : came ++ byte ∷ [] ≡ stream_of (s.packets ++ whole ∷ [])
     spelled = longer ∙ ap (λ (l : List ℕ). stream_of s.packets ++ l) (part_whole part byte low s.cut.is_part is).spelled ∙ sym (stream_on s.packets whole)
 
+    -- what a stop inside it leaves
+    pub leaves_so : (c : List ℕ) → LeavesAt card whole c → Leaves begun (came ++ byte ∷ []) c
+    leaves_so c left = record {
+      before = s.packets;
+      stopped = whole;
+      rest = [];
+      spelled = spelled ∙ sym (append-nil (stream_of (s.packets ++ whole ∷ [])));
+      card = card;
+      answers = s.answered.answers;
+      serves = s.answered.serves;
+      leaves = left;
+    }
+
     answered_so : (new : Card) (filled : Option (List ℕ)) (answers : List (List ℕ)) → Hears card whole new answers → Appends sunk filled (stream_of answers) → IsServing begun (came ++ byte ∷ []) [] new held filled
     answered_so new filled answers hears put = record {
       packets = s.packets ++ whole ∷ [];
@@ -86,6 +99,31 @@ module _ (begun : Card) (held : Option (List ℕ)) (came part : List ℕ) (byte 
 -- the bytes so far, and one more
 pub one_more : (came bytes : List ℕ) (i : ℕ) → i < length bytes → (came ++ take i bytes) ++ get_or bytes i 0 ∷ [] ≡ came ++ take (i + 1) bytes
 one_more came bytes i under = append_assoc came (take i bytes) (get_or bytes i 0 ∷ []) ∙ ap (λ (l : List ℕ). came ++ l) (sym (take_more bytes i 0 under))
+
+-- what a stop leaves while bytes are answered it leaves while these and more are
+pub leaves_more : (begun : Card) (came more c : List ℕ) → Leaves begun came c → Leaves begun (came ++ more) c
+leaves_more begun came more c l = record {
+  before = l.before;
+  stopped = l.stopped;
+  rest = l.rest ++ more;
+  spelled = ap (λ (a : List ℕ). a ++ more) l.spelled ∙ append_assoc (stream_of (l.before ++ l.stopped ∷ [])) l.rest more;
+  card = l.card;
+  answers = l.answers;
+  serves = l.serves;
+  leaves = l.leaves;
+}
+
+-- and while one more of these bytes is answered
+pub leaves_next : (begun : Card) (came bytes : List ℕ) (i : ℕ) (c : List ℕ) → i < length bytes → Leaves begun (came ++ take i bytes) c → Leaves begun (came ++ take (i + 1) bytes) c
+leaves_next begun came bytes i c under l = subst (λ (a : List ℕ). Leaves begun a c) (one_more came bytes i under) (leaves_more begun (came ++ take i bytes) (get_or bytes i 0 ∷ []) c l)
+
+pub leaves_last : (begun : Card) (came bytes : List ℕ) (i : ℕ) (c : List ℕ) → i < length bytes → Leaves begun ((came ++ take i bytes) ++ get_or bytes i 0 ∷ []) c → Leaves begun (came ++ take (i + 1) bytes) c
+leaves_last begun came bytes i c under l = subst (λ (a : List ℕ). Leaves begun a c) (one_more came bytes i under) l
+
+pub leaves_all : (begun : Card) (came bytes : List ℕ) (n : ℕ) (c : List ℕ) → Leaves begun (came ++ take n bytes) c → Leaves begun (came ++ bytes) c
+leaves_all begun came bytes n c l =
+    subst (λ (a : List ℕ). Leaves begun a c) (append_assoc came (take n bytes) (drop n bytes) ∙ ap (λ (a : List ℕ). came ++ a) (take-append-drop n bytes))
+    (leaves_more begun (came ++ take n bytes) (drop n bytes) c l)
 
 -- as a front of all
 front_is : (came bytes : List ℕ) (i : ℕ) → i < length bytes → (came ++ take i bytes) ++ get_or bytes i 0 ∷ [] ≡ take (length came + (i + 1)) (came ++ bytes)

@@ -3,15 +3,14 @@ use Rattle.std.specs.Prelude.{◌≡◌, ◌⊎◌, ℕ, ◌≤◌, ◌<◌, Lis
 use Rattle.std.specs.Io.KnownBytes.{Appends, Consumes}
 use Rattle.card_layout.specs.declared.command.CardState.{CardState}
 use Rattle.card_layout.specs.Outcomes.{after_reset}
-use Rattle.tach_media.specs.Medium.{State}
+use Rattle.tach_media.specs.Medium.{State, LeavesOnly}
 use Rattle.tach_media.specs.Streams.{AppendsFront}
-use Rattle.link_session.specs.Asked.{Asking, AnswersInTime}
 use Rattle.card_service.specs.declared.serving.CardFault.{CardFault}
 use Rattle.card_service.specs.declared.serving.CardFault.TheVariants.{ReadFault, WriteFault, Failed, Cut, TooLong}
 use Rattle.card_service.specs.declared.serving.Asked.{Asked}
 use Rattle.card_service.specs.declared.serving.TheConstants.{MOST_TURNS}
 use Rattle.card_service.specs.Packets.{stream_of, ArePackets}
-use Rattle.card_service.specs.Answering.{Card, HearsAs, Serves, FailsAs, IsRevived, asked_by}
+use Rattle.card_service.specs.Answering.{Card, card_told, HearsAs, Serves, FailsAs, IsRevived, asked_by, LeavesAt}
 
 -- these packets were answered, and the sink took the answers
 pub record AreAnswered (begun : Card) (packets : List (List ℕ)) (now : Card) (held sunk : Option (List ℕ)) : Type
@@ -93,17 +92,40 @@ Ends (Err WriteFault) begun came now held sunk = (n : ℕ) × StopsAt WriteFault
 Ends (Err Failed) begun came now held sunk = IsUnbegun came held sunk
     ⊎ ((n : ℕ) × StopsAt Failed begun (take n came) now held sunk)
 
--- THE BYTES THAT CAME from the source, what the sink took for them, and the card behind them. Before each read of the
--- source all packets that had come were answered.
-pub record IsCardServed (r : Result (Unit {0}) CardFault) (old : State) (before : CardState) (now : Card)
-    (left unread held sunk : Option (List ℕ)) (asked_before asked : Option (List Asking)) : Type 0 where
-  pub begun : Card
+-- AN IMAGE THAT A STOP LEAVES while the packets of these bytes are answered: those before one of them were answered, as
+-- the card went by them, and that one is an UPDATE BINARY whose bytes are written in part, or whole.
+pub record Leaves (begun : Card) (came c : List ℕ) : Type 0 where
+  pub before : List (List ℕ)
+  pub stopped : List ℕ
+  pub rest : List ℕ
+  pub spelled : came ≡ stream_of (before ++ stopped ∷ []) ++ rest
+  pub card : Card
+  pub answers : List (List ℕ)
+  pub serves : Serves begun before card answers
+  pub leaves : LeavesAt card stopped c
+
+-- the card with which a service begins: the one behind a reset, at which no write begins
+pub record IsBegun (old : State) (before : CardState) (begun : Card) : Type 0 where
   pub image : IsRevived old begun.image
+  pub clock : begun.clock ≡ old.clock
   pub state : begun.state ≡ after_reset before
+
+-- THE BYTES THAT CAME from the source, what the sink took for them, and the card behind them. A stop leaves one of the
+-- images that it might have left before, or that of an update in part.
+pub record IsCardServed (r : Result (Unit {0}) CardFault) (old new : State) (before after : CardState)
+    (left unread held sunk : Option (List ℕ)) : Type 0 where
+  pub begun : Card
+  pub begins : IsBegun old before begun
   pub came : List ℕ
   pub consumed : Consumes left unread came
-  pub ends : Ends r begun came now held sunk
-  pub in_time : AnswersInTime (AllAnswered begun) left unread held asked_before asked
+  pub ends : Ends r begun came (card_told new after) held sunk
+  pub moments : LeavesOnly old new (λ x c. Leaves begun came c)
+
+-- BEFORE A READ all packets that had come were answered
+pub record CardInTime (old : State) (before : CardState) (came : List ℕ) (held sunk : Option (List ℕ)) : Type 0 where
+  pub begun : Card
+  pub begins : IsBegun old before begun
+  pub all : AllAnswered begun came held sunk
 
 -- the source, the sink or the card failed; the other faults have their causes elsewhere
 abbrev pub IsCaused : CardFault → (read wrote failed : Type 0) → Type 0

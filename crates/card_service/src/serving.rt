@@ -5,11 +5,14 @@ ghost use Rattle.std.specs.Io.KnownBytes.{Appends, IsAtEnd};
 ghost use Rattle.card_layout.specs.Outcomes.{after_reset};
 ghost use Rattle.tach_media.specs.Medium.{Rose, LeavesOnly, HasCause, Unchanged, revivable};
 ghost use Rattle.tach_media.specs.Streams.{AppendsFront};
+ghost use Rattle.link_session.specs.Asked.{AnswersInTime};
 ghost use Rattle.card_service.specs.declared.packets.TheConstants.{ANSWER_MOST};
 ghost use Rattle.card_service.specs.Packets.{packet, IsPart};
 ghost use Rattle.card_service.specs.declared.serving.Asked.TheVariants.{Command};
-ghost use Rattle.card_service.specs.Answering.{Card, card_told, IsRevived, asked_by, asked_by_word};
+ghost use Rattle.card_layout.specs.Outcomes.{outcome_of};
+ghost use Rattle.card_service.specs.Answering.{Card, card_told, IsRevived, asked_by, asked_by_word, PartlyBy, LeavesAt};
 ghost use Rattle.card_service.specs.Serving.{IsHeard, IsHeardAs, IsServing, Serving, ServingAll, IsCardServed, IsCaused};
+ghost use Rattle.card_service.specs.Serving.{Leaves, CardInTime};
 
 use crate::packets::{Gathering, write_packet};
 use link_session::Peer;
@@ -18,9 +21,9 @@ use tach_media::{Answer, Chip, Sink, put_all};
 /// As many reads as a service makes at most.
 pub const MOST_TURNS: u64 = 18_446_744_073_709_551_615;
 
-/// The card's answer to a reset: direct convention, no interface byte, so T=0 with all default values, and two
-/// historical bytes of no standard form (ISO/IEC 7816-3).
-pub const ANSWER_TO_RESET: [u8; 4] = [0x3B, 0x02, 0x14, 0x5A];
+/// The card's answer to a reset: direct convention, no interface byte, so T=0 alone with all default values, and no
+/// historical byte (ISO/IEC 7816-3).
+pub const ANSWER_TO_RESET: [u8; 2] = [0x3B, 0x00];
 
 /// What a packet asks for.
 #[derive(Clone, Copy, Debug, PartialEq, Eq)]
@@ -65,9 +68,11 @@ pub fn serve_card<S: Peer<K>, K: Sink, C: Chip>(
     sink: &mut K,
     chip: &mut C,
 ) -> Result<(), CardFault>
-    ensures served { IsCardServed result (C.state chip.old) (C.card chip.old)
-        (card_told (C.state chip.new) (C.card chip.new)) (S.left source.old) (S.left source.new) (K.held sink.old)
-        (K.held sink.new) (S.asked source.old) (S.asked source.new) }
+    ensures served { IsCardServed result (C.state chip.old) (C.state chip.new) (C.card chip.old) (C.card chip.new)
+        (S.left source.old) (S.left source.new) (K.held sink.old) (K.held sink.new) }
+    // Before each read all packets that had come were answered.
+    ensures in_time { AnswersInTime (CardInTime (C.state chip.old) (C.card chip.old)) (S.left source.old)
+        (S.left source.new) (K.held sink.old) (S.asked source.old) (S.asked source.new) }
     // At the end nothing of the source is left.
     ensures end { OnOk result (IsAtEnd (S.left source.new)) }
     ensures cause { IfErr result (λ fault. IsCaused fault (Rose (S.faults source.old) (S.faults source.new))
@@ -114,6 +119,9 @@ fn take_all<K: Sink, C: Chip>(
         → IsServing begun came gathering.old (card_told (C.state chip.old) (C.card chip.old)) held (K.held sink.old)
         → ServingAll result begun came bytes.now gathering.new (card_told (C.state chip.new) (C.card chip.new)) held
         (K.held sink.new) }
+    ensures moments { (begun : Card) (held : Option (List ℕ)) (came : List ℕ)
+        → IsServing begun came gathering.old (card_told (C.state chip.old) (C.card chip.old)) held (K.held sink.old)
+        → LeavesOnly (C.state chip.old) (C.state chip.new) (λ x c. Leaves begun (came ++ bytes.now) c) }
     ensures works { OnOk result ((C.state chip.new).works ≡ true) }
     ensures part { OnOk result (IsPart gathering.new) }
     ensures cause { IfErr result (λ fault. IsCaused fault ⊥ (Rose (K.faults sink.old) (K.faults sink.new))
@@ -139,6 +147,9 @@ fn take<K: Sink, C: Chip>(
         → IsServing begun came gathering.old (card_told (C.state chip.old) (C.card chip.old)) held (K.held sink.old)
         → Serving result begun (came ++ byte ∷ []) gathering.new (card_told (C.state chip.new) (C.card chip.new)) held
         (K.held sink.new) }
+    ensures moments { (begun : Card) (held : Option (List ℕ)) (came : List ℕ)
+        → IsServing begun came gathering.old (card_told (C.state chip.old) (C.card chip.old)) held (K.held sink.old)
+        → LeavesOnly (C.state chip.old) (C.state chip.new) (λ x c. Leaves begun (came ++ byte ∷ []) c) }
     ensures works { OnOk result ((C.state chip.new).works ≡ true) }
     ensures part { OnOk result (IsPart gathering.new) }
     ensures cause { IfErr result (λ fault. IsCaused fault ⊥ (Rose (K.faults sink.old) (K.faults sink.new))
@@ -158,6 +169,8 @@ fn hear<K: Sink, C: Chip>(bytes: &[u8], sink: &mut K, chip: &mut C) -> Result<()
     requires works { (C.state chip.old).works ≡ true }
     ensures heard { IsHeard result (card_told (C.state chip.old) (C.card chip.old)) bytes.now
         (card_told (C.state chip.new) (C.card chip.new)) (K.held sink.old) (K.held sink.new) }
+    ensures moments { LeavesOnly (C.state chip.old) (C.state chip.new)
+        (λ x c. LeavesAt (card_told (C.state chip.old) (C.card chip.old)) bytes.now c) }
     ensures works { OnOk result ((C.state chip.new).works ≡ true) }
     ensures cause { IfErr result (λ fault. IsCaused fault ⊥ (Rose (K.faults sink.old) (K.faults sink.new))
         (Rose (C.state chip.old).faults (C.state chip.new).faults)) }
@@ -196,6 +209,8 @@ fn asked_by_word(word: u8) -> Asked
 /// The card is reset.
 fn reset<C: Chip>(chip: &mut C) -> Result<(), CardFault>
     ensures image { IsRevived (C.state chip.old) (C.state chip.new).image }
+    ensures moments { LeavesOnly (C.state chip.old) (C.state chip.new) Unchanged }
+    ensures clock { (C.state chip.new).clock ≡ (C.state chip.old).clock }
     ensures state { C.card chip.new ≡ after_reset (C.card chip.old) }
     ensures works { OnOk result ((C.state chip.new).works ≡ true) }
     ensures err { IfErr result (λ fault. fault ≡ CardFault.Failed) }
@@ -212,6 +227,8 @@ fn reset<C: Chip>(chip: &mut C) -> Result<(), CardFault>
 fn answer<K: Sink, C: Chip>(command: &[u8], sink: &mut K, chip: &mut C) -> Result<(), CardFault>
     ensures heard { IsHeardAs Command result (card_told (C.state chip.old) (C.card chip.old)) command.now
         (card_told (C.state chip.new) (C.card chip.new)) (K.held sink.old) (K.held sink.new) }
+    ensures moments { LeavesOnly (C.state chip.old) (C.state chip.new)
+        (λ x c. PartlyBy (outcome_of (C.card chip.old) command.now).effect (C.state chip.old).image c) }
     ensures works { OnOk result ((C.state chip.new).works ≡ true) }
     ensures cause { IfErr result (λ fault. IsCaused fault ⊥ (Rose (K.faults sink.old) (K.faults sink.new))
         (Rose (C.state chip.old).faults (C.state chip.new).faults)) }

@@ -1,9 +1,9 @@
-//! The line of a device whose file system lacks what its medium asks of it.
+//! The line of a device whose file, or file system, lacks what its medium asks of it.
 ghost use Rattle.std.specs.Prelude.{◌≡◌, ◌≤◌, length, OnOk};
 ghost use Rattle.std.specs.Io.KnownBytes.{Appends};
 ghost use Rattle.tach_media.specs.Streams.{CountsFaults};
 ghost use Rattle.run_model.specs.Names.{device_name};
-ghost use Rattle.failure_lines.specs.Lacks.{missing_name, missing_line, missing_text};
+ghost use Rattle.failure_lines.specs.Lacks.{missing_words, missing_line, missing_text};
 
 use crate::timed::{MOST, add};
 use arrayvec::ArrayVec;
@@ -11,7 +11,7 @@ use run_model::Device;
 use sector_medium::Missing;
 use tach_media::{Failed, Sink, put_all};
 
-/// Writes one line of what the file system lacks: of the unit, else of the first card, else of the second one; nothing
+/// Writes one line of what a device lacks: of the unit, else of the first card, else of the second one; nothing
 /// where none of them lacks anything.
 ///
 /// # Errors
@@ -50,15 +50,15 @@ fn missing_text(
     }
 }
 
-/// What the file system of a device lacks.
+/// What the file of a device, or its file system, lacks.
 fn missing_line(device: Device, missing: Missing) -> ArrayVec<u8, MOST>
     ensures { result.items ≡ missing_line device missing }
 {
     let mut text = ArrayVec::new();
     add(&mut text, device_name(device));
-    add(&mut text, b": no ");
-    add(&mut text, missing_name(missing));
-    add(&mut text, b" in its file system\n");
+    add(&mut text, b": ");
+    add(&mut text, missing_words(missing));
+    add(&mut text, b"\n");
     text
 }
 
@@ -75,12 +75,14 @@ fn device_name(device: Device) -> &'static [u8]
 }
 
 /// What is missing, as a line tells it.
-fn missing_name(missing: Missing) -> &'static [u8]
-    ensures name { result.now ≡ missing_name missing }
-    ensures few { length result.now ≤ 20 }
+fn missing_words(missing: Missing) -> &'static [u8]
+    ensures words { result.now ≡ missing_words missing }
+    ensures few { length result.now ≤ 42 }
 {
     match missing {
-        Missing::Locks => b"locks",
-        Missing::SynchronisedFolders => b"synchronised folders",
+        Missing::Locks => b"no locks in its file system",
+        Missing::SynchronisedFolders => b"no synchronised folders in its file system",
+        Missing::Bytes => b"its file is too short",
+        Missing::Copy => b"no copy of what it held could be made",
     }
 }

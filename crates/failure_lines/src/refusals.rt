@@ -40,7 +40,7 @@ fn refusal_line(refused: &Refused) -> ArrayVec<u8, MOST>
 }
 
 /// Why a line was refused.
-fn refusal_reason(fault: SlotFault) -> &'static [u8]
+pub fn refusal_reason(fault: SlotFault) -> &'static [u8]
     ensures reason { result.now ≡ refusal_reason fault }
     ensures few { length result.now ≤ 28 }
 {

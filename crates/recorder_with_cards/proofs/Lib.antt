@@ -98,3 +98,4 @@ pub mod TurnRows
 pub mod Writes
 pub mod PowerOns
 pub mod NewestGrows
+pub mod InShort

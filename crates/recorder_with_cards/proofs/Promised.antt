@@ -55,6 +55,7 @@ use Rattle.run_acts.specs.run_crew.Cards.{known_of as known_in, session_of}
 use Rattle.run_minutes.specs.run_promise.Found.{Found, found_of}
 use Rattle.run_minutes.specs.run_promise.Between.{RunLedger, LedgerStands, IsFound, devices}
 use Rattle.run_minutes.specs.run_promise.Opening.{BeginsAs, carried_first}
+use Rattle.run_minutes.specs.run_promise.Cards.{IsCardHeld}
 use Rattle.run_minutes.proofs.run_promise.End.{lit-carried}
 use Rattle.run_minutes.specs.run_promise.Accounts.{so_far}
 use Rattle.run_acts.specs.run_course.Telling.{IsMore}
@@ -314,6 +315,11 @@ module _ (x a b : List ℕ) (start : ℕ) (items : List Item) (began now : Devic
     speeds = carded.speeds.blocks;
     again = begins-anew r out.marks.items began now run-ends.safe may.numbers;
     timely = timely.moments;
+    since = λ c m at.
+        let hr = h.evented.recorded.recorded in
+        let w = carried (values_of run out) hr.due hr.book hr.standing hr.brought hr.hands hr.firsts in
+        let is = All-contains (IsCardHeld (found_of o.found c) c hr.book (card_of now c)) (marks_of (device_of c) out.marks.items) m ((is-carried (seconds_of start items) (values_of run out) w h.evented.recorded.supply hr.held).marks c).held at in
+        subst (λ (n : ℕ). n ≤ m.clock) (clocks c) is.began;
     last = unit-last.1;
     dense = record {
       insertions = λ dense y left. (h.ringed.ringed.insertions (insertions-inside x may.decodes) y left).shows.carries.dense dense;

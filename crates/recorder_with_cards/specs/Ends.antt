@@ -1,14 +1,18 @@
 -- What a run with cards promises, over devices that began with one image each (profile).
-use Rattle.std.specs.Prelude.{◌≢◌, ◌<◌, ◌≤◌, ◌/◌, ℕ, List, [], length}
+use Rattle.std.specs.Prelude.{◌≢◌, ◌<◌, ◌≤◌, ◌/◌, ℕ, List, [], Contains, length}
+use Rattle.trace_model.specs.declared.Card.{Card}
 use Rattle.trace_model.specs.declared.Item.{Item}
 use Rattle.trace_model.specs.Trace.{TraceSecond, seconds_of}
+use Rattle.log_model.specs.declared.lines.Mark.{Mark}
+use Rattle.log_model.specs.Causes.{device_of}
 use Rattle.log_model.specs.Log.{RunLog}
 use Rattle.unit_minutes.specs.unit_model.Decoding.{Decodes}
 use Rattle.unit_minutes.specs.unit_model.Image.{last_kept}
 use Rattle.unit_minutes.specs.unit_model.Versions.{rule_of}
 use Rattle.device_calls.specs.card_image.Own.{own_number, IsOwnValid}
 use Rattle.device_calls.specs.safety_model.Recording.{Recording}
-use Rattle.device_calls.specs.safety_model.Safe.{Devices, breakdowns_of}
+use Rattle.device_calls.specs.safety_model.Safe.{Devices, card_of, breakdowns_of}
+use Rattle.device_calls.specs.safety_model.Unit.{marks_of}
 use Rattle.device_calls.specs.unit_rule.OtherRows.{KeepsRows}
 use Rattle.run_minutes.specs.run_promise.Opening.{BeginsAs}
 use Rattle.run_minutes.specs.run_promise.Origin.{Origin}
@@ -96,6 +100,10 @@ pub record IsTold (unit card_a card_b : List ℕ) (items : List Item) (began now
   pub time : HaveTime now
   pub few : length items ≤ largest_number
 
+-- these marks are of a moment since a clock
+abbrev pub AreSince : ℕ → List Mark → Type 0
+AreSince since marks = (m : Mark) → Contains marks m → since ≤ m.clock
+
 -- WHAT A RUN PROMISES that was recorded. An image of a device is here each one that a stop may leave of it.
 pub record EndsTrace (unit card_a card_b : List ℕ) (start : ℕ) (items : List Item) (out : Outcome)
     (began now : Devices) : Type 0 where
@@ -146,6 +154,8 @@ pub record EndsTrace (unit card_a card_b : List ℕ) (start : ℕ) (items : List
   -- no failed call is told later than in the second in which its device acknowledges the next minute: by then the run
   -- was complete, and no device had broken down more often than was told
   pub timely : TellsInTime (recording_of unit card_a card_b start items out) start out.marks.items began now
+  -- each minute that a card has acknowledged it has acknowledged in the run
+  pub since : (c : Card) → AreSince (card_of began c).clock (marks_of (device_of c) out.marks.items)
 
 -- A RUN THAT WAS RECORDED: it ends so, and each device has broken down just as often as it is told
 pub record RecordsTrace (unit card_a card_b : List ℕ) (start : ℕ) (items : List Item) (out : Outcome)

@@ -11,7 +11,8 @@ ghost use Rattle.run_acts.specs.Going.{IsBetweenSeconds};
 ghost use Rattle.run_acts.specs.Room.{HasRoom};
 ghost use Rattle.recorder_with_cards.specs.Items.{between, insertions_in};
 ghost use Rattle.recorder_with_cards.specs.Recorded.{actions_in};
-ghost use Rattle.recorder_with_cards.specs.Ends.{BeginAs, IsTold, RecordsTrace, MayRecord, IsKeptFrom};
+ghost use Rattle.recorder_with_cards.specs.Ends.{BeginAs, IsTold, RecordsTrace, MayRecord, IsKeptFrom, recording_of};
+ghost use Rattle.short_promise.specs.InShort.{KeepsInShort};
 ghost use Rattle.recorder_with_cards.specs.Gone.{first_waiting, has_seconds, HasGone, IsRefusedBy, TellsBreakdowns};
 ghost use Rattle.recorder_with_cards.specs.Writes.{turns_at, acts_at};
 ghost use Rattle.recorder_with_cards.specs.Acts.{ItemGoes, PromisesItem, AreAmong, MayGoOn, RunGoes};
@@ -51,6 +52,14 @@ pub fn run_trace<U: Medium, C: Chip>(
         (devices (U.state unit.new) (C.state card_a.new) (C.state card_b.new))
         → OnOk result (RecordsTrace x a b trace.now.start trace.now.items outcome.new
         (devices (U.state unit.old) (C.state card_a.old) (C.state card_b.old))
+        (devices (U.state unit.new) (C.state card_a.new) (C.state card_b.new))) }
+    // IN SHORT: what every image of the unit says of each minute, what stands of what was acknowledged, what a card
+    // has, and that neither is ahead of the other or misses a minute.
+    ensures short { (x a b : List ℕ)
+        → IsTold x a b trace.now.items (devices (U.state unit.old) (C.state card_a.old) (C.state card_b.old))
+        (devices (U.state unit.new) (C.state card_a.new) (C.state card_b.new))
+        → OnOk result (KeepsInShort (recording_of x a b trace.now.start trace.now.items outcome.new)
+        outcome.new.marks.items (devices (U.state unit.old) (C.state card_a.old) (C.state card_b.old))
         (devices (U.state unit.new) (C.state card_a.new) (C.state card_b.new))) }
     // A run that is recorded could begin, and what keeps one from being recorded is in these images, or a call has
     // failed in the opening.

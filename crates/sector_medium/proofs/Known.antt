@@ -1,18 +1,17 @@
 -- What is known of a disk by what was read behind its front, and what the adapter's calls make of it.
-use Rattle.std.proofs.Common.{true, false, sym, ◌≡◌, ℕ, Bool, List, length, take, drop, Option, Some, None, option_map, IfSome, refl, ◌∙◌, ap, subst, arith}
-use Rattle.std.specs.Prelude.{◌+◌, ◌<◌, ◌≤◌, ◌*◌, ◌-◌, ◌%◌, ◌&&◌}
+use Rattle.std.proofs.Common.{true, false, sym, ◌≡◌, ℕ, List, take, drop, Option, Some, None, option_map, IfSome, refl, ◌∙◌, ap, subst, arith}
+use Rattle.std.specs.Prelude.{◌+◌, ◌≤◌, ◌-◌}
 use Rattle.std.proofs.lemmas.Bool.Decides.{nat_tests}
 use Rattle.std.proofs.lemmas.List.{take-take, drop-take}
-use Rattle.tach_media.specs.Medium.{State, IsCoherent, LeavesOnly, Reads, HasCause, Unchanged, put, bytes_at}
+use Rattle.tach_media.specs.Medium.{State, IsCoherent, Reads, HasCause, Unchanged, put, bytes_at}
 use Rattle.tach_media.proofs.Runs.{broken_then}
 use Rattle.sector_medium.specs.Disk.{Ends}
-use Rattle.sector_medium.specs.Redo.{record_place, recovered, gate_of, is_gate, is_matched, is_pending, window, new_bytes, IsShut, IsOpen, IsAround}
-use Rattle.sector_medium.specs.RedoLaws.{gate_fits, record_behind}
-use Rattle.sector_medium.specs.Recovered.{on_disk, HasRoom, Changes, IsSeen, IsKnown}
+use Rattle.sector_medium.specs.Redo.{recovered, gate_of, is_gate, is_matched, is_pending, window, new_bytes, IsShut, IsOpen, IsAround}
+use Rattle.sector_medium.specs.Recovered.{on_disk, IsKnown}
 use Rattle.sector_medium.specs.declared.found.Redo.{Redo}
 use Rattle.sector_medium.specs.declared.found.Found.{Found}
 use Rattle.sector_medium.specs.declared.found.Found.TheVariants.{Unknown, Closed, Stale, Open}
-use Rattle.sector_medium.proofs.Redos.{shut_pending, shut_front, open_front, pending_by, take_put}
+use Rattle.sector_medium.proofs.Redos.{shut_pending, shut_front, open_front, pending_by}
 use Rattle.sector_medium.proofs.Lifts.{lift_leaves}
 use Rattle.sector_medium.proofs.Moves.{told_at, gate_around}
 

@@ -4,3 +4,4 @@ pub mod Moves
 pub mod Known
 pub mod Laying
 pub mod Untouched
+pub mod Tearing

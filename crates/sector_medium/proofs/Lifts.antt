@@ -1,11 +1,11 @@
 -- What a call on a disk does, said of the memory that it holds.
-use Rattle.std.proofs.Common.{true, false, sym, ◌≡◌, inl, inr, ⊎_elim, ℕ, Bool, List, [], ◌∷◌, length, Option, Some, None, is_some, option_map, IfSome, refl, ◌∙◌, ap, subst, arith}
-use Rattle.std.specs.Prelude.{◌+◌, ◌<◌, ◌≤◌, ◌⊎◌}
+use Rattle.std.proofs.Common.{true, false, sym, ◌≡◌, inl, inr, ⊎_elim, ℕ, Bool, List, [], ◌∷◌, length, Option, Some, None, is_some, option_map, refl, ◌∙◌, ap, subst, arith}
+use Rattle.std.specs.Prelude.{◌+◌, ◌≤◌, ◌⊎◌}
 use Rattle.card_layout.proofs.Images.{put_outside}
 use Rattle.tach_media.specs.Medium.{State, IsCoherent, LiesInside, LeavesOnly, Reads, HasCause, Unchanged, put, IsPartlyWritten}
 use Rattle.tach_media.proofs.Runs.{goes_same, from_reads, after_reads, cause_after}
 use Rattle.sector_medium.specs.Disk.{IsTorn}
-use Rattle.sector_medium.specs.Redo.{record_place, recovered}
+use Rattle.sector_medium.specs.Redo.{recovered}
 use Rattle.sector_medium.specs.Recovered.{on_disk, HasRoom, Changes}
 
 -- the cause of an answer speaks of no image

@@ -1,17 +1,17 @@
 -- What each write of a record does to the memory.
-use Rattle.std.proofs.Common.{true, false, sym, ◌≡◌, inl, inr, ⊎_elim, ℕ, Bool, List, [], ◌∷◌, ◌++◌, length, take, drop, Option, Some, None, is_some, option_map, IfSome, refl, ◌∙◌, ap, subst, arith}
-use Rattle.std.specs.Prelude.{◌+◌, ◌-◌, ◌*◌, ◌/◌, ◌%◌, ◌^◌, ◌<◌, ◌≤◌, ◌⊎◌, Result, Ok, Err, OnOk, IfOk, is_err}
+use Rattle.std.proofs.Common.{true, false, sym, ◌≡◌, inl, ⊎_elim, ℕ, Bool, List, ◌++◌, length, take, drop, Option, Some, None, option_map, IfSome, refl, ◌∙◌, ap, subst, arith}
+use Rattle.std.specs.Prelude.{◌+◌, ◌-◌, ◌/◌, ◌%◌, ◌^◌, ◌<◌, ◌≤◌, Result, OnOk, is_err}
 use Rattle.std.proofs.lemmas.Bool.Decides.{nat_tests}
 use Rattle.byteorder.specs.Endian.{big_bytes}
 use Rattle.byteorder.specs.Numbers.{length-bytes_high_first}
-use Rattle.card_layout.proofs.Images.{put_outside, part_before, part_put}
-use Rattle.tach_media.specs.Medium.{State, IsCoherent, LeavesOnly, Reads, HasCause, put, bytes_at, SameOutside}
-use Rattle.tach_media.proofs.Runs.{ok_gives, on_ok, at_image, if_told, told_too}
+use Rattle.card_layout.proofs.Images.{put_outside}
+use Rattle.tach_media.specs.Medium.{State, IsCoherent, LeavesOnly, Reads, HasCause, put, bytes_at}
+use Rattle.tach_media.proofs.Runs.{ok_gives, at_image}
 use Rattle.sector_medium.specs.Disk.{IsTorn}
 use Rattle.sector_medium.specs.Redo.{record_place, recovered, is_gate, window, IsShut, IsOpen, IsReady, IsHalfDone, IsAround}
 use Rattle.std.proofs.lemmas.List.{length-take-le, length-drop}
 use Rattle.sector_medium.specs.RedoLaws.{gate_fits, record_behind, recovered_sized}
-use Rattle.sector_medium.specs.Recovered.{on_disk, HasRoom, Changes, told_of}
+use Rattle.sector_medium.specs.Recovered.{on_disk, HasRoom, Changes}
 use Rattle.sector_medium.proofs.Redos.{shut_quiet, shut_after, before_put, behind_put, gate_opened, in_place, in_place_done, record_quiet, shut_kept, partly_same, partly_put, record_ready}
 use Rattle.sector_medium.proofs.Lifts.{Wrote, lift_quiet, lift_change}
 

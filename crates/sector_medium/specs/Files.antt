@@ -9,7 +9,7 @@ use Rattle.sector_medium.specs.declared.file.Unreached.TheVariants as unreached
 use Rattle.sector_medium.specs.declared.file.Backing.{Backing}
 use Rattle.sector_medium.specs.declared.file.Backing.TheVariants.{Unopened, Open, Lost, Lacking}
 
--- what the file system lacks, where a call has failed for that
+-- what the file or its file system lacks, where a call has failed for that
 abbrev pub missing_in : Backing → Option Missing
 missing_in Unopened = None
 missing_in (Open file) = None

@@ -1,5 +1,6 @@
 -- A disk as a memory, by what is recovered of each of its images.
-use Rattle.std.specs.Prelude.{◌≡◌, ℕ, ◌+◌, ◌≤◌, ◌<◌, ◌^◌, Bool, List, [], ◌∷◌, length, Option, Some, None, option_map, true, false}
+use Rattle.std.specs.Prelude.{◌≡◌, ℕ, ◌+◌, ◌≤◌, ◌<◌, ◌^◌, Bool, List, [], ◌∷◌, length, Option, Some, None, option_map}
+use Rattle.std.specs.Prelude.{true, false}
 use Rattle.std.proofs.Common.{refl, sym, ◌∙◌, ap, subst, arith}
 use Rattle.card_layout.specs.Fields.{IsBytes}
 use Rattle.tach_media.specs.Medium.{State, IsCoherent, HoldsBytes, LeavesOnly, HasCause, IsPartlyWritten, put}
@@ -7,7 +8,7 @@ use Rattle.sector_medium.specs.Redo.{record_place, recovered, is_pending, IsShut
 use Rattle.sector_medium.specs.declared.found.Redo.{Redo}
 use Rattle.sector_medium.specs.declared.found.Found.{Found}
 use Rattle.sector_medium.specs.declared.found.Found.TheVariants.{Unknown, Closed, Stale, Open}
-use Rattle.sector_medium.specs.RedoLaws.{recovered_sized, recovered_bytes, record_behind}
+use Rattle.sector_medium.specs.RedoLaws.{recovered_sized, recovered_bytes}
 
 -- THE MEMORY OF SO MANY BYTES ON A DISK: its image is what is recovered of the disk's, and a stop may leave what is
 -- recovered of an image that it may leave of the disk
@@ -28,12 +29,14 @@ on_disk size s = record {
 }
 
 -- what was recovered of a told image
-pub told_of : (o : Option (List ℕ)) (f : List ℕ → List ℕ) (x : List ℕ) → option_map f o ≡ Some x → (c : List ℕ) × (o ≡ Some c) × (x ≡ f c)
+pub told_of : (o : Option (List ℕ)) (f : List ℕ → List ℕ) (x : List ℕ) → option_map f o ≡ Some x
+    → (c : List ℕ) × (o ≡ Some c) × (x ≡ f c)
 told_of None f x is = absurd (cc)
 told_of (Some c) f x is = (c, refl, cc)
 
 -- it is coherent where the disk is, and has room for the record
-pub on_disk_coherent : (size : ℕ) (s : State) → record_place size + 16 ≤ s.size → IsCoherent s → IsCoherent (on_disk size s)
+pub on_disk_coherent : (size : ℕ) (s : State) → record_place size + 16 ≤ s.size → IsCoherent s
+    → IsCoherent (on_disk size s)
 on_disk_coherent size s room whole = record {
   sized = λ x is.
       let d = told_of s.image (recovered size) x is in
@@ -56,7 +59,9 @@ on_disk_coherent size s room whole = record {
 -- and of bytes
 pub on_disk_bytes : (size : ℕ) (s : State) → HoldsBytes s → HoldsBytes (on_disk size s)
 on_disk_bytes size s holds = record {
-  told = λ x is. let d = told_of s.image (recovered size) x is in subst IsBytes (sym d.2) (recovered_bytes size d.0 (holds.told d.0 d.1));
+  told = λ x is.
+      let d = told_of s.image (recovered size) x is in
+      subst IsBytes (sym d.2) (recovered_bytes size d.0 (holds.told d.0 d.1));
   now = λ x left. subst IsBytes (sym left.2) (recovered_bytes size left.0 (holds.now left.0 left.1));
   since = λ t x left. subst IsBytes (sym left.2) (recovered_bytes size left.0 (holds.since t left.0 left.1));
 }

@@ -1,5 +1,6 @@
 //! The writes of the adapter, each of which leaves an old or a new memory at each moment.
-ghost use Rattle.std.specs.Prelude.{◌≡◌, ◌≤◌, ◌<◌, ◌+◌, ◌-◌, ◌^◌, ◌*◌, ◌%◌, length, take, IfOk, IfSome, OnOk, is_err, true, ◌++◌};
+ghost use Rattle.std.specs.Prelude.{◌≡◌, ◌≤◌, ◌<◌, ◌+◌, ◌-◌, ◌^◌, ◌*◌, ◌%◌, length, take, IfOk, IfSome, OnOk, is_err};
+ghost use Rattle.std.specs.Prelude.{true, ◌++◌};
 ghost use Rattle.tach_media.specs.Medium.{Reads, put};
 ghost use Rattle.sector_medium.specs.Redo.{record_place, recovered, is_gate, window, IsOpen, IsShut, IsReady};
 ghost use Rattle.sector_medium.specs.Redo.{IsAround, IsHalfDone};

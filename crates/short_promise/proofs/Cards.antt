@@ -1,16 +1,20 @@
 -- What the images of a card show, in short.
-use Rattle.std.proofs.Common.{◌≡◌, ◌⊎◌, inl, inr, ⊎_elim, ℕ, ◌/◌, ◌<◌, ◌≤◌, Bool, true, false, cond, List, [], ◌∷◌, ◌++◌, Contains, nat_le, refl, subst, sym, arith}
+use Rattle.std.proofs.Common.{◌≡◌, ◌⊎◌, inl, inr, ⊎_elim, ℕ, ◌+◌, ◌/◌, ◌<◌, ◌≤◌, Bool, true, false, cond, List, [], ◌∷◌, ◌++◌, Contains, filter, length, nat_le, refl, subst, sym, arith}
 use Rattle.std.proofs.lemmas.Bool.Decides.{nat_tests}
 use Rattle.std.proofs.lemmas.List.Elements.{Contains-append_left, Contains-append_right, Contains-push_cases, Contains-append_cases}
 use Rattle.safety_model.specs.device_rule.activity_codec.declared.entries.Entry.{Entry}
 use Rattle.safety_model.specs.device_rule.trace_model.declared.Card.{Card}
 use Rattle.safety_model.specs.device_rule.log_model.declared.lines.Mark.{Mark}
+use Rattle.safety_model.specs.device_rule.log_model.Causes.{device_of, cards_torn}
+use Rattle.safety_model.specs.device_rule.log_model.Slots.{same_card}
 use Rattle.safety_model.specs.device_rule.history_model.Completeness.{IsComplete}
 use Rattle.safety_model.specs.device_rule.Own.{own_view}
 use Rattle.safety_model.specs.card_retention.Retains.{entries_from}
-use Rattle.tach_media.specs.Medium.{State}
+use Rattle.tach_media.specs.Medium.{State, last_count}
 use Rattle.safety_model.specs.Recording.{Recording, brought, start_of, told_of}
+use Rattle.safety_model.specs.Unit.{marks_of}
 use Rattle.safety_model.specs.Cards.{CardShows, CardMarkHolds, CardSafe}
+use Rattle.safety_model.specs.Safe.{Devices, card_of}
 use Rattle.short_promise.specs.InShort.{ShowsFirst, IsGivenUp, StandsOn, CardKeeps}
 
 either : (a b : ℕ) → (a ≤ b) ⊎ (b < a)
@@ -55,22 +59,27 @@ module _ (r : Recording) (c : Card) where
       (λ gone. inr (record { first = f; among = at; older = gone }))
       (either f.oldest (e.minute / 1440))
 
-  stands-on : (card : State) (m : Mark) → CardMarkHolds r c card m → StandsOn r c card m
-  stands-on card m h = record {
+  stands-on : (since : ℕ) (card : State) (m : Mark) → CardMarkHolds r c card m → since ≤ m.clock → StandsOn r c since card m
+  stands-on since card m h began = record {
     e = h.e;
     of = h.stands;
     minute = h.minute;
+    began = began;
     clock = h.clock;
     prompt = h.prompt;
     says = λ x left. let s = h.shown x left in has-entry x (first-of x s.0) h.e s.1;
   }
 
   -- CARD
-  pub card-keeps : (marks : List Mark) (since : ℕ) (card : State) → CardSafe r c marks since card → IsComplete r.rule (start_of r) r.log (told_of r) marks → CardKeeps r c marks since card
-  card-keeps marks since card safe complete = record {
+  pub card-keeps : (marks : List Mark) (began now : Devices) → CardSafe r c marks (card_of began c).clock (card_of now c) → IsComplete r.rule (start_of r) r.log (told_of r) marks →
+      ((m : Mark) → Contains (marks_of (device_of c) marks) m → (card_of began c).clock ≤ m.clock) →
+      (now.card_a.breakdowns < last_count → now.card_b.breakdowns < last_count → (card_of now c).breakdowns ≡ (card_of began c).breakdowns + length (filter (same_card c) (cards_torn (told_of r)))) →
+      CardKeeps r c marks began now
+  card-keeps marks began now safe complete since counted = record {
     valid = λ was x left. (safe.valid was x left, safe.number was x left);
     first = λ was x left. first-of x (safe.entries was x left);
-    acknowledged = λ m at. stands-on card m (safe.marked m at);
+    acknowledged = λ m at. stands-on (card_of began c).clock (card_of now c) m (safe.marked m at) (since m at);
     complete = λ span d i e among within at same said. complete.card span d i c e among within at same said;
+    counted = counted;
     spared = λ not_ x left. safe.untouched (inl not_) x left;
   }

@@ -27,7 +27,7 @@ use Rattle.short_promise.proofs.Together.{from-within}
 use Rattle.safety_model.specs.device_rule.Filling.{seen_by_unit}
 use Rattle.std.proofs.lemmas.List.Elements.{All-contains, All-contains_itself, Contains-append_left, Contains-push_cases}
 use Rattle.short_promise.specs.InShort.{said, due, IsOverwritten, HasAll, Stands, ShowsFirst, AreTogether, MissesNone}
-use Rattle.short_promise.proofs.Saying.{told}
+use Rattle.days_told.proofs.Saying.{told}
 use Rattle.short_promise.proofs.Bytes.{empty_image, image_of_both, image_of_other, image_with_hole, image_of_first, empty-days, empty-last, both-days, both-last, both-decodes, other-days, other-last, hole-days, hole-last, first-last}
 use Rattle.short_promise.proofs.Images.{said-told}
 
@@ -129,12 +129,12 @@ module _ (start x : List ℕ) (empty : recorded start ≡ []) (none : last_kept 
       ours = ⊎_elim (λ same. same) (λ (gone : Contains [] has.history). absurd (omega (arith, gone.1))) has.is
 
   -- NOT OF ONE THAT LACKS AN ACKNOWLEDGED MINUTE, if only for a moment: it has not come to it,
-  lacks : (unit : State) (m : Mark) → m.minute ≡ 1441 → unit.left_since m.clock x → last_kept x ≡ 1440 → Stands history unit m → ⊥
-  lacks unit m is left last stands = let far = stands.far x left in omega (arith, far, is, last)
+  lacks : (since : ℕ) (unit : State) (m : Mark) → m.minute ≡ 1441 → unit.left_since m.clock x → last_kept x ≡ 1440 → Stands history since unit m → ⊥
+  lacks since unit m is left last stands = let far = stands.far x left in omega (arith, far, is, last)
 
   -- or it has gone on without it
-  skips : (unit : State) (m : Mark) → m.minute ≡ 1440 → unit.left_since m.clock x → recorded x ≡ day_of (unknown_minute 1440 ∷ held_second ∷ []) → Stands (first ∷ []) unit m → ⊥
-  skips unit m at left is stands = ⊎_elim
+  skips : (since : ℕ) (unit : State) (m : Mark) → m.minute ≡ 1440 → unit.left_since m.clock x → recorded x ≡ day_of (unknown_minute 1440 ∷ held_second ∷ []) → Stands (first ∷ []) since unit m → ⊥
+  skips since unit m at left is stands = ⊎_elim
       (λ same. let clash : unknown_minute 1440 ≡ held_first = sym (said-in (day_of (unknown_minute 1440 ∷ held_second ∷ [])) is 1440) ∙ ap (said x) (sym at) ∙ same ∙ ap seen_by_unit one in
       let act : Rest ≡ Driving = ap (λ (k : UnitMinute). k.driver.act) clash in cc)
       (λ older. short (day_of (unknown_minute 1440 ∷ held_second ∷ [])) is (omega arith) m.minute older)
@@ -154,12 +154,12 @@ hole-refused : HasAll empty_image history [] image_with_hole → ⊥
 hole-refused = hole empty_image image_with_hole empty-days empty-last hole-days hole-last
 
 -- of a minute that was acknowledged as 00:01
-lack-refused : (unit : State) (m : Mark) → m.minute ≡ 1441 → unit.left_since m.clock image_of_first → Stands history unit m → ⊥
-lack-refused unit m is left = lacks empty_image image_of_first empty-days empty-last unit m is left first-last
+lack-refused : (since : ℕ) (unit : State) (m : Mark) → m.minute ≡ 1441 → unit.left_since m.clock image_of_first → Stands history since unit m → ⊥
+lack-refused since unit m is left = lacks empty_image image_of_first empty-days empty-last since unit m is left first-last
 
 -- and as 00:00
-skip-refused : (unit : State) (m : Mark) → m.minute ≡ 1440 → unit.left_since m.clock image_with_hole → Stands (first ∷ []) unit m → ⊥
-skip-refused unit m is left = skips empty_image image_with_hole empty-days empty-last unit m is left hole-days
+skip-refused : (since : ℕ) (unit : State) (m : Mark) → m.minute ≡ 1440 → unit.left_since m.clock image_with_hole → Stands (first ∷ []) since unit m → ⊥
+skip-refused since unit m is left = skips empty_image image_with_hole empty-days empty-last since unit m is left hole-days
 
 -- ---- a card, both together, and what is complete
 module _ (r : Recording) (c : Card) where

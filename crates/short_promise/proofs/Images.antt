@@ -12,9 +12,9 @@ use Rattle.device_rule.specs.history_model.Growth.{Rises}
 use Rattle.device_rule.proofs.history_model.Decided.{rises-within, rises-split}
 use Rattle.device_rule.specs.Filling.{seen_by_unit, filled_with, FillsDays}
 use Rattle.short_promise.specs.InShort.{said, IsOverwritten, due, HasAll}
-use Rattle.short_promise.proofs.Lost.{IsParted}
-use Rattle.short_promise.proofs.Turning.{InTurn, image-daily, all-daily, Rising}
-use Rattle.short_promise.proofs.Saying.{look, told, told-behind, Under, kept-under, told-all, told-newest, look-among, IsOlder}
+use Rattle.days_told.proofs.Lost.{IsParted}
+use Rattle.days_told.proofs.Turning.{InTurn, image-daily, all-daily, Rising}
+use Rattle.days_told.proofs.Saying.{look, told, told-behind, Under, kept-under, told-all, told-newest, look-among, IsOlder}
 
 pub said-told : (x : List ℕ) (m : ℕ) → said x m ≡ told (recorded x) m
 unfolding unit_minutes

@@ -1,6 +1,3 @@
-pub mod Lost
-pub mod Saying
-pub mod Turning
 pub mod Images
 pub mod Cards
 pub mod Short
@@ -8,3 +5,5 @@ pub mod Together
 pub mod Theorem
 pub mod Bytes
 pub mod Examples
+pub mod Gap
+pub mod GivenUp

@@ -24,7 +24,7 @@ use Rattle.history_model.proofs.Told.{rises}
 use Rattle.safety_model.specs.Unit.{marks_of, UnitShows, UnitMarkHolds, UnitSafe}
 use Rattle.safety_model.proofs.Whole.{mark-of, no-failure}
 use Rattle.short_promise.specs.InShort.{said, IsOverwritten, HasAll, Stands, MissesNone, KeepsAlone}
-use Rattle.short_promise.proofs.Lost.{IsParted, lost-parted}
+use Rattle.days_told.proofs.Lost.{IsParted, lost-parted}
 use Rattle.short_promise.proofs.Images.{has-all, shows-says, due-among, due-history, passed-rising}
 
 -- a run of these seconds, on a unit that began with this image
@@ -49,11 +49,12 @@ module _ (image : List ℕ) (rule : Rule) (start : Start) (log : RunLog) (ss : L
   unit-has x s ok mark = has-all image decodes (from / 60) until past lost later rising parted s.next s.some x ok s.passed s.days mark
 
   -- ACKNOWLEDGED
-  pub unit-stands : (unit : State) (m : Mark) → UnitMarkHolds (recorded image) past lost unit m → ((x : List ℕ) → unit.left_since m.clock x → m.minute ≤ last_kept x) → Stands past unit m
-  unit-stands unit m h held = record {
+  pub unit-stands : (since : ℕ) (unit : State) (m : Mark) → UnitMarkHolds (recorded image) past lost unit m → since ≤ m.clock → ((x : List ℕ) → unit.left_since m.clock x → m.minute ≤ last_kept x) → Stands past since unit m
+  unit-stands since unit m h began held = record {
     i = h.i;
     of = h.stands;
     minute = h.minute;
+    began = began;
     clock = h.clock;
     prompt = h.prompt;
     far = held;
@@ -78,12 +79,13 @@ module _ (image : List ℕ) (rule : Rule) (start : Start) (log : RunLog) (ss : L
   -- A UNIT ALONE
   pub keeps-alone : (marks : List Mark) (began now : State) (safe : UnitSafe (recorded image) past lost marks began.clock now) →
       ((x : List ℕ) (left : now.left_since began.clock x) → IsMark (last_kept image) (safe.minutes x left).some (last_kept x)) →
+      ((m : Mark) → Contains (marks_of Recorder marks) m → began.clock ≤ m.clock) →
       ((m : Mark) → Contains (marks_of Recorder marks) m → (x : List ℕ) → now.left_since m.clock x → m.minute ≤ last_kept x) →
       MissesNone rule log (went log ss).told marks began now →
       KeepsAlone image past lost rule log (went log ss).told marks began now
-  keeps-alone marks began now safe last held complete = record {
+  keeps-alone marks began now safe last since held complete = record {
     unit = λ x left. unit-has x (safe.minutes x left) (safe.decodes x left) (last x left);
-    acknowledged = λ m at. unit-stands now m (safe.marked m at) (held m at);
+    acknowledged = λ m at. unit-stands began.clock now m (safe.marked m at) (since m at) (held m at);
     complete = complete;
   }
 

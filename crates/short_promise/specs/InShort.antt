@@ -1,6 +1,6 @@
 -- THE CRASH-SAFETY THEOREM IN SHORT (profile): what a run leaves of the unit and of the cards.
 use Rattle.std.specs.Prelude.{◌≡◌, ◌⊎◌, ℕ, ◌+◌, ◌-◌, ◌*◌, ◌/◌, ◌<◌, ◌≤◌, true, List, ◌++◌, All, Contains, find, length}
-use Rattle.std.specs.Prelude.{nat_eq, option_map, unwrap_or}
+use Rattle.std.specs.Prelude.{nat_eq, option_map, unwrap_or, filter}
 use Rattle.safety_model.specs.device_rule.activity_codec.declared.entries.Entry.{Entry}
 use Rattle.safety_model.specs.device_rule.trace_model.declared.Card.{Card}
 use Rattle.safety_model.specs.device_rule.run_model.declared.Device.TheVariants.{Unit as Recorder}
@@ -10,8 +10,9 @@ use Rattle.safety_model.specs.device_rule.unit_model.Days.{UnitMinute, unknown_m
 use Rattle.safety_model.specs.device_rule.unit_model.Image.{recorded, unit_minutes, last_kept}
 use Rattle.safety_model.specs.device_rule.unit_model.Decoding.{Decodes}
 use Rattle.safety_model.specs.device_rule.log_model.declared.lines.Mark.{Mark}
-use Rattle.safety_model.specs.device_rule.log_model.Causes.{device_of, cuts}
+use Rattle.safety_model.specs.device_rule.log_model.Causes.{device_of, cuts, cards_torn}
 use Rattle.safety_model.specs.device_rule.log_model.Log.{RunLog}
+use Rattle.safety_model.specs.device_rule.log_model.Slots.{same_card}
 use Rattle.safety_model.specs.device_rule.log_model.Course.{ToldSecond}
 use Rattle.safety_model.specs.device_rule.log_model.Spans.{spans_of}
 use Rattle.safety_model.specs.device_rule.minute_model.declared.Rule.{Rule}
@@ -58,12 +59,13 @@ pub record HasAll (start : List ℕ) (past : List HistoryMinute) (lost : List (L
   pub last : IsMark (last_kept start) history (last_kept x)
   pub says : (m : ℕ) → m ≤ last_kept x → (said x m ≡ due start history m) ⊎ IsOverwritten x m
 
--- 2. ACKNOWLEDGED. A minute that the unit has acknowledged is one of the history, and was told at once. Each image
--- since goes as far and says that minute, unless the day was overwritten.
-pub record Stands (past : List HistoryMinute) (unit : State) (m : Mark) : Type 0 where
+-- 2. ACKNOWLEDGED. A minute that the unit has acknowledged is one of the history, and was told in the run, at once.
+-- Each image since goes as far and says that minute, unless the day was overwritten.
+pub record Stands (past : List HistoryMinute) (since : ℕ) (unit : State) (m : Mark) : Type 0 where
   pub i : HistoryMinute
   pub of : Contains past i
   pub minute : i.minute ≡ m.minute
+  pub began : since ≤ m.clock
   pub clock : m.clock ≤ unit.clock
   pub prompt : IsPrompt unit m
   pub far : (x : List ℕ) → unit.left_since m.clock x → m.minute ≤ last_kept x
@@ -89,12 +91,13 @@ module _ (r : Recording) (c : Card) where
     pub among : Contains ((brought r c).entries ++ first.more) e
     pub older : e.minute / 1440 < first.oldest
 
-  -- A minute that the card has acknowledged is that of an entry which was owed to it or is of the run, and was told at
-  -- once. Each image since has that entry, unless its day was given up.
-  pub record StandsOn (card : State) (m : Mark) : Type 0 where
+  -- A minute that the card has acknowledged is that of an entry which was owed to it or is of the run, and was told in
+  -- the run, at once. Each image since has that entry, unless its day was given up.
+  pub record StandsOn (since : ℕ) (card : State) (m : Mark) : Type 0 where
     pub e : Entry
     pub of : Contains ((brought r c).owed ++ card_history c (history_of r)) e
     pub minute : e.minute ≡ m.minute
+    pub began : since ≤ m.clock
     pub clock : m.clock ≤ card.clock
     pub prompt : IsPromptOn card m
     pub says : (x : List ℕ) → card.left_since m.clock x → Contains (own_view x).held.entries e ⊎ IsGivenUp x e
@@ -102,18 +105,25 @@ module _ (r : Recording) (c : Card) where
   -- 3. CARD. Where it was valid each image is valid, has its number, and shows the first of what it is to have. What it
   -- has acknowledged stands; and it has acknowledged each entry that the run says on it, but where a call on the unit
   -- failed in the second that decided the minute, or the card was torn or pulled out between the minute's end and that
-  -- second. A card that was not valid is as it was.
-  pub record CardKeeps (marks : List Mark) (since : ℕ) (card : State) : Type 0 where
-    pub valid : IsOwnValid (card_image r c) → (x : List ℕ) → card.left_since since x
+  -- second. The log tells of just as many tears by failed calls as it broke down. A card that was not valid is as it
+  -- was.
+  pub record CardKeeps (marks : List Mark) (began now : Devices) : Type 0 where
+    pub valid : IsOwnValid (card_image r c) → (x : List ℕ) → (card_of now c).left_since (card_of began c).clock x
         → IsOwnValid x × (own_number x ≡ own_number (card_image r c))
-    pub first : IsOwnValid (card_image r c) → (x : List ℕ) → card.left_since since x → ShowsFirst x
-    pub acknowledged : (m : Mark) → Contains (marks_of (device_of c) marks) m → StandsOn card m
+    pub first : IsOwnValid (card_image r c) → (x : List ℕ) → (card_of now c).left_since (card_of began c).clock x
+        → ShowsFirst x
+    pub acknowledged : (m : Mark) → Contains (marks_of (device_of c) marks) m
+        → StandsOn (card_of began c).clock (card_of now c) m
     pub complete : (span : List ToldSecond) (d : Minute) (i : HistoryMinute) (e : Entry)
         → Contains (spans_of (told_of r)) span → Contains (decided_of r.rule span) d
         → Contains (history_of r) i → i.minute ≡ d.minute → Contains (on_card c i) e
         → IsMarked marks (device_of c) i.minute
         ⊎ BrokenIn r.log (told_of r) c (60 * (i.minute + 1)) (deciding_of r.rule (settlings_of span) i.minute)
-    pub spared : (IsOwnValid (card_image r c) → ⊥) → (x : List ℕ) → card.left_since since x → x ≡ card_image r c
+    pub counted : now.card_a.breakdowns < last_count → now.card_b.breakdowns < last_count
+        → (card_of now c).breakdowns
+        ≡ (card_of began c).breakdowns + length (filter (same_card c) (cards_torn (told_of r)))
+    pub spared : (IsOwnValid (card_image r c) → ⊥) → (x : List ℕ)
+        → (card_of now c).left_since (card_of began c).clock x → x ≡ card_image r c
 
   -- the unit says the same as an entry: in its slot the activity, with a card present, and CREW as the entry has it
   abbrev pub Tells : UnitMinute → Entry → Type 0
@@ -142,8 +152,9 @@ pub record MissesNone (rule : Rule) (log : RunLog) (told : List ToldSecond) (mar
 
 pub record KeepsInShort (r : Recording) (marks : List Mark) (began now : Devices) : Type 0 where
   pub unit : (x : List ℕ) → now.unit.left_since began.unit.clock x → HasAll r.unit (history_of r) (lost_of r) x
-  pub acknowledged : (m : Mark) → Contains (marks_of Recorder marks) m → Stands (history_of r) now.unit m
-  pub card : (c : Card) → CardKeeps r c marks (card_of began c).clock (card_of now c)
+  pub acknowledged : (m : Mark) → Contains (marks_of Recorder marks) m
+      → Stands (history_of r) began.unit.clock now.unit m
+  pub card : (c : Card) → CardKeeps r c marks began now
   pub together : (c : Card) (u x : List ℕ) → IsOwnValid (card_image r c) → now.unit.may_leave u
       → (card_of now c).may_leave x → AreTogether r c u x
   pub complete : MissesNone r.rule r.log (told_of r) marks began.unit now.unit
@@ -152,5 +163,5 @@ pub record KeepsInShort (r : Recording) (marks : List Mark) (began now : Devices
 pub record KeepsAlone (start : List ℕ) (past : List HistoryMinute) (lost : List (List HistoryMinute))
     (rule : Rule) (log : RunLog) (told : List ToldSecond) (marks : List Mark) (began now : State) : Type 0 where
   pub unit : (x : List ℕ) → now.left_since began.clock x → HasAll start past lost x
-  pub acknowledged : (m : Mark) → Contains (marks_of Recorder marks) m → Stands past now m
+  pub acknowledged : (m : Mark) → Contains (marks_of Recorder marks) m → Stands past began.clock now m
   pub complete : MissesNone rule log told marks began now

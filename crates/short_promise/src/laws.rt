@@ -27,6 +27,7 @@ pub fn a_unit_alone_keeps_in_short<U: Medium>(unit_then: &U, unit: &U)
         (with_lost rule start log (went log ss).told) marks (U.state unit_then.now).clock (U.state unit.now)) →
         ((x : List ℕ) (left : (U.state unit.now).left_since (U.state unit_then.now).clock x)
         → IsMark (last_kept image) (safe.minutes x left).some (last_kept x)) →
+        ((m : Mark) → Contains (marks_of Recorder marks) m → (U.state unit_then.now).clock ≤ m.clock) →
         ((m : Mark) → Contains (marks_of Recorder marks) m → (x : List ℕ) → (U.state unit.now).left_since m.clock x
         → m.minute ≤ last_kept x) →
         MissesNone rule log (went log ss).told marks (U.state unit_then.now) (U.state unit.now) →

@@ -1,6 +1,6 @@
 -- How a trace with cards ends that is recorded on the unit and both cards.
 use Rattle.std.proofs.Common.{◌≡◌, ◌∙◌, ◌≤◌, ◌<◌, ◌^◌, ◌⊎◌, inl, inr, ⊎_elim, ℕ, true, refl, sym, subst, arith, List, [], length, Some}
-use Rattle.tach_media.specs.Medium.{State, Rose, HasBroken, last_count}
+use Rattle.tach_media.specs.Medium.{State, IsCoherent, Rose, HasBroken, last_count}
 use Rattle.run_promise.specs.Between.{devices}
 use Rattle.run_model.specs.declared.Device.{Device}
 use Rattle.run_model.specs.declared.Device.TheVariants.{Unit as OfUnit, CardA, CardB}
@@ -13,7 +13,7 @@ use Rattle.trace_model.specs.declared.Item.{Item}
 use Rattle.trace_model.specs.Trace.{total_seconds}
 use Rattle.recorder_with_cards.specs.Writes.{WritesIn}
 use Rattle.recorder_with_cards.proofs.Writes.{writes-few}
-use Rattle.recorder_with_cards.specs.Breakdowns.{BreakdownsAreTold}
+use Rattle.recorder_with_cards.specs.Breakdowns.{BreakdownsAreTold, BreakdownsAreCounted}
 use Rattle.trace_text.specs.declared.lines_trace.Form.TheVariants.{Whole}
 use Rattle.trace_text.specs.Judged.{IsTraceText}
 use Rattle.run_opening.specs.declared.fault.RunFault.{RunFault}
@@ -22,6 +22,7 @@ use Rattle.tacho.specs.Alone.{IsForUnit}
 use Rattle.recorder_with_cards.specs.Gone.{IsRefusedBy as IsRefusedAt}
 use Rattle.recorder_with_cards.proofs.WholeOdometer.{all-there}
 use Rattle.recorder_with_cards.proofs.Breakdowns.{are-counted}
+use Rattle.recorder_with_cards.proofs.InShort.{recorded-keeps}
 use Rattle.recorder_with_cards.specs.Ends.{recording_of, BeginAs, MayRecord, EndsTrace, IsKeptFrom}
 use Rattle.run_outcome.specs.declared.outcome.Outcome.{Outcome}
 use Rattle.tacho.specs.declared.end.Fault.{Fault}
@@ -124,6 +125,7 @@ module _ (old new : Outside) (outcome : Outcome) (start : ℕ) (items : List Ite
   cards-refused fault when refused = record {
     with_cards = not-unit;
     run = λ s is x a b starts ran. absurd (refused-no-run (refusal_of_run fault) (run-refusal fault) ran);
+    short = λ s is x a b starts ran. absurd (refused-no-run (refusal_of_run fault) (run-refusal fault) ran);
     refused = λ s is x a b starts ref. (record { by = fault; is = refl; kept = kept-from s is x a b starts }, (refused x a b starts.begins starts.clocks).1);
     records = λ s is x a b starts sound may. absurd (none-caused old new x a b s fault sound may (kept-from s is x a b starts));
     finds = λ s is x a b starts sound not. record { by = fault; is = refl; kept = kept-from s is x a b starts };
@@ -151,14 +153,15 @@ module _ (old new : Outside) (outcome : Outcome) (start : ℕ) (items : List Ite
           subst (λ (t : ℕ). IsKeptFrom x a b t (devices_of old) (devices_of new) fault) (same-trace s is starts.told).0 (refused x a b starts.begins starts.clocks).0
 
   -- THE RUN IS DONE
-  pub cards-run : ((x a b : List ℕ) → BeginAs x a b (devices_of old) → HaveTime (devices_of new) → EndsTrace x a b start items outcome (devices_of old) (devices_of new))
+  pub cards-run : IsCoherent new.unit → ((x a b : List ℕ) → BeginAs x a b (devices_of old) → HaveTime (devices_of new) → EndsTrace x a b start items outcome (devices_of old) (devices_of new))
       → ((x a b : List ℕ) → BeginAs x a b (devices_of old) → MayRecord x a b start) → (cuts true (log_of outcome) ≡ [] → new.unit.breakdowns ≡ old.unit.breakdowns)
       → (tears true (log_of outcome) ≡ [] → (new.card_a.memory.breakdowns ≡ old.card_a.memory.breakdowns) × (new.card_b.memory.breakdowns ≡ old.card_b.memory.breakdowns))
       → BreakdownsAreTold (log_of outcome) (devices_of old) (devices_of new)
       → (fault : Fault) → IsRun fault → (fault ≡ WriteFault → Rose old.sink.faults new.sink.faults) → EndsWithCards old new outcome fault
-  cards-run recorded begun calm still told fault ran rose = record {
+  cards-run coherent recorded begun calm still told fault ran rose = record {
     with_cards = not-unit;
     run = λ s is x a b starts done. recorded-as s is x a b starts;
+    short = λ s is x a b starts done. recorded-keeps x a b s is outcome (devices_of old) (devices_of new) coherent later.unit.clock (record { ends = recorded-as s is x a b starts; counted = counted-as s is x a b starts });
     refused = λ s is x a b starts ref. absurd (refused-no-run fault ref ran);
     records = λ s is x a b starts sound may. run-done old new fault ran rose sound.sink;
     finds = λ s is x a b starts sound not.
@@ -170,7 +173,7 @@ module _ (old new : Outside) (outcome : Outcome) (start : ℕ) (items : List Ite
     calm = λ done. calm;
     still = λ done. still;
     told = λ done. told;
-    counted = λ s is x a b starts done. are-counted _ (recording_of x a b s is outcome) (devices_of old) (devices_of new) (recorded-as s is x a b starts).ends.caused.causes told;
+    counted = λ s is x a b starts done. counted-as s is x a b starts;
     early = λ s is told ref. absurd (refused-no-run fault ref ran);
     unbroken = unbroken-as;
     uncut = uncut-by;
@@ -184,6 +187,9 @@ module _ (old new : Outside) (outcome : Outcome) (start : ℕ) (items : List Ite
           let same = same-trace s is starts.told in
           subst (λ (t : ℕ). EndsTrace x a b t is outcome (devices_of old) (devices_of new)) same.0
           (subst (λ (l : List Item). EndsTrace x a b start l outcome (devices_of old) (devices_of new)) same.1 (recorded x a b starts.begins starts.clocks))
+
+      counted-as : (s : ℕ) (is : List Item) (x a b : List ℕ) → StartWith x a b s is old new → BreakdownsAreCounted (recording_of x a b s is outcome) (devices_of old) (devices_of new)
+      counted-as s is x a b starts = are-counted _ (recording_of x a b s is outcome) (devices_of old) (devices_of new) (recorded-as s is x a b starts).ends.caused.causes told
 
       unbroken-as : (s : ℕ) (is : List Item) (x a b : List ℕ) → StartWith x a b s is old new → AreSound old new → HaveCounts (devices_of old) → (cuts true (log_of outcome) ≡ []) × (tears true (log_of outcome) ≡ [])
       unbroken-as s is x a b starts sound counts =

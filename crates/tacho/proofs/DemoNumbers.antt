@@ -11,7 +11,7 @@ use Rattle.message_model.specs.Records.{insertion_ring}
 use Rattle.note_model.specs.Noted.{insertions_of}
 use Rattle.note_model.specs.Rings.{RingShows, IsInsertion, is_sure_insertion}
 use Rattle.safety_model.specs.Recording.{Recording, start_of, history_of, lost_of, told_of, card_image}
-use Rattle.safety_model.specs.Unit.{UnitSafe, issued_bytes}
+use Rattle.safety_model.specs.Unit.{UnitSafe, issued_bytes, marks_of}
 use Rattle.unit_rule.specs.OtherRows.{KeepsRows}
 use Rattle.safety_model.specs.Cards.{CardSafe}
 use Rattle.safety_model.specs.ByHand.{HandsSafe}
@@ -19,7 +19,7 @@ use Rattle.safety_model.specs.Safe.{Devices, card_of, breakdowns_of, IsVerdict, 
 use Rattle.safety_model.specs.Side.{holder_of, notes_in, IsPrevious}
 use Rattle.unit_model.specs.Image.{recorded, last_kept}
 use Rattle.run_outcome.specs.declared.outcome.Outcome.{Outcome}
-use Rattle.recorder_with_cards.specs.Ends.{recording_of, EndsTrace}
+use Rattle.recorder_with_cards.specs.Ends.{recording_of, AreSince, EndsTrace}
 use Rattle.run_speeds.specs.Speeds.{HasSpeeds}
 use Rattle.run_speeds.specs.Spans.{blocks_by, is_sure_block}
 use Rattle.recorder_with_cards.specs.Still.{KeepsHolder, KeepsVehicles}
@@ -130,5 +130,6 @@ module _ (x a b : List ℕ) (start : ℕ) (items : List Item) (out : Outcome) (p
     again = λ u ca cb left left_a left_b.
         h.again u ca cb (subst (λ (n : ℕ). now.unit.left_since n u) (sym unit) left) (subst (λ (n : ℕ). now.card_a.left_since n ca) (sym (cards A)) left_a) (subst (λ (n : ℕ). now.card_b.left_since n cb) (sym (cards B)) left_b);
     speeds = λ ring. subst (λ (n : ℕ). HasSpeeds (is_sure_block r.log) r.unit n (blocks_by r.log r.trace) now.unit) unit (h.speeds ring);
+    since = λ c. subst (λ (n : ℕ). AreSince n (marks_of (device_of c) out.marks.items)) (cards c) (h.since c);
     timely = subst (λ (m : Device → ℕ). HasMoments r.rule (start_of r) m start r.trace r.log out.marks.items now) (λ i device. broken device i) h.timely;
   }

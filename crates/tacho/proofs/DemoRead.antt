@@ -288,6 +288,7 @@ module _ (U V : State) (is : IsRead U V) where
           vehicles = λ c valid y left. h.vehicles c valid y (told-back c y left);
           measures = record { spans = h.measures.spans; are_spans = h.measures.are_spans; measures = λ c valid y left. h.measures.measures c valid y (card-back c y left) };
           sessions = λ c valid y left. h.sessions c valid y (card-back c y left);
+          since = h.since;
           timely = λ n low. let m = h.timely n low in (m.0, m.1, m.2, moment-read m.0 m.3);
           places = record { spans = h.places.spans; are_spans = h.places.are_spans; shows = λ c valid y left. h.places.shows c valid y (card-back c y left) };
           cards = λ c. subst (λ (s : State). ShowsItsEvents r c p s) (same-card c) (h.cards c);

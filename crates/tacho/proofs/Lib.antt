@@ -31,5 +31,7 @@ pub mod Services
 pub mod LineServices
 pub mod Downloads
 pub mod PacketServices
+pub mod CardServices
 pub mod CardEnds
 pub mod Demo
+pub mod HintWords

@@ -30,9 +30,10 @@ use Rattle.tacho.specs.Alone.{IsForUnit, NoVerdict, StartsAs, IsUnitFault, IsRef
 use Rattle.tacho.specs.Outside.{Outside, memory_of}
 use Rattle.tacho.specs.Program.{HasCauses}
 use Rattle.tacho.specs.Outcomes.{IsEmpty, IsRun, IsRefusal, SourceTells, refusal_of_run}
-use Rattle.tacho.specs.UnitRecorded.{breakdowns_in, IsSound, HaveCounts, Starts, IsRecorded, IsAllThere, IsCaused, EndsOnUnit}
+use Rattle.tacho.specs.UnitRecorded.{breakdowns_in, IsSound, HaveCounts, Starts, IsRecorded, IsKept, IsAllThere, IsCaused, EndsOnUnit}
 use Rattle.tacho.proofs.Recordings.{none-bad, run-refusal, refused-no-run}
 use Rattle.tacho.proofs.Unbroken.{none-failed, unbroken-log, cut-none}
+use Rattle.short_promise.proofs.Short.{keeps-alone}
 
 -- the image that a unit tells behind reads alone is the one that it started with
 pub told-still : (x y : List ℕ) (old new : State) → IsCoherent old → IsCoherent new → StartsAs x old → LeavesOnly old new Unchanged → new.image ≡ Some y → y ≡ x
@@ -88,6 +89,7 @@ module _ (old new : Outside) (outcome : Outcome) (start : ℕ) (items : List Ite
     for_unit = only-lines;
     only = λ d is. let e : device ≡ d = cc in sym e ∙ of_unit.0;
     run = λ s is x told starts no. absurd no;
+    short = λ s is x told starts no. absurd no;
     caused = λ s is x told starts no. absurd no;
     bad_unit = λ place x starts is. absurd (cc);
     clock_back = λ kept second x starts is. absurd (cc);
@@ -113,6 +115,7 @@ module _ (old new : Outside) (outcome : Outcome) (start : ℕ) (items : List Ite
         for_unit = only-lines;
         only = λ device is. absurd (cc);
         run = λ s is x told starts no. absurd no;
+        short = λ s is x told starts no. absurd no;
         caused = λ s is x told starts no. absurd no;
         bad_unit = λ p x starts is. let e : place ≡ p = cc in bad x starts ∙ ap Some e;
         clock_back = λ kept second x starts is. absurd (cc);
@@ -140,6 +143,7 @@ module _ (old new : Outside) (outcome : Outcome) (start : ℕ) (items : List Ite
         for_unit = only-lines;
         only = λ device is. absurd (cc);
         run = λ s is x told starts no. absurd no;
+        short = λ s is x told starts no. absurd no;
         caused = λ s is x told starts no. absurd no;
         bad_unit = λ p x starts is. absurd (cc);
         clock_back = λ k t x starts is.
@@ -220,6 +224,7 @@ unit-run old new outcome start items for_unit is_read short few recorded caused 
   for_unit = λ s is told. subst IsForUnit (is_read told.text s is told.told told.trace).1 for_unit;
   only = λ device is. absurd (subst IsRun is ran);
   run = λ s is x told starts done. of_trace s is x (is_read told.text s is told.told told.trace) (recorded x starts.alone starts.clock);
+  short = λ s is x told starts done. short_of s is x (is_read told.text s is told.told told.trace) (in_short x starts);
   caused = λ s is x told starts done. of_causes s is (is_read told.text s is told.told told.trace) (caused x starts.alone starts.clock);
   bad_unit = λ place x starts is. absurd (subst IsRun is ran);
   clock_back = λ kept second x starts is. absurd (subst IsRun is ran);
@@ -265,6 +270,19 @@ unit-run old new outcome start items for_unit is_read short few recorded caused 
 
     of_trace : (s : ℕ) (is : List Item) (x : List ℕ) → (start ≡ s) × (items ≡ is) → IsRecorded x start items outcome old.unit new.unit → IsRecorded x s is outcome old.unit new.unit
     of_trace s is x same h = subst (λ (t : ℕ). IsRecorded x t is outcome old.unit new.unit) same.0 (subst (λ (l : List Item). IsRecorded x start l outcome old.unit new.unit) same.1 h)
+
+    counted : new.unit.breakdowns < last_count → new.unit.breakdowns ≡ old.unit.breakdowns + length (cuts true (log_of outcome))
+    counted below = let most = told below in let least = broke.breakdowns in omega (arith, most, least, below)
+
+    in_short : (x : List ℕ) → Starts x old.unit new.unit → IsKept x start items outcome old.unit new.unit
+    in_short x starts cards =
+        let f = recorded x starts.alone starts.clock cards in
+        let may = begun x starts.alone in
+        keeps-alone x (rule_of x) cards (log_of outcome) (seconds_of start items) start may.0 may.1 (seconds-order start items) outcome.marks.items old.unit new.unit f.safe f.last.last f.last.began f.last.held
+        (record { acknowledged = f.complete; counted = counted })
+
+    short_of : (s : ℕ) (is : List Item) (x : List ℕ) → (start ≡ s) × (items ≡ is) → IsKept x start items outcome old.unit new.unit → IsKept x s is outcome old.unit new.unit
+    short_of s is x same h = subst (λ (t : ℕ). IsKept x t is outcome old.unit new.unit) same.0 (subst (λ (l : List Item). IsKept x start l outcome old.unit new.unit) same.1 h)
 
     of_causes : (s : ℕ) (is : List Item) → (start ≡ s) × (items ≡ is) → IsCaused old new start items outcome → IsCaused old new s is outcome
     of_causes s is same h = subst (λ (t : ℕ). IsCaused old new t is outcome) same.0 (subst (λ (l : List Item). IsCaused old new start l outcome) same.1 h)

@@ -4,8 +4,8 @@ use Rattle.std.proofs.Common.{ap, sym, arith}
 use Rattle.std.proofs.lemmas.Fmt.{decimal_digit}
 use Rattle.std.specs.Fmt.{digits}
 use Rattle.minute_model.specs.declared.Rule.TheVariants.{Original, Amended}
-use Rattle.trace_model.specs.declared.Card.TheVariants.{B}
-use Rattle.tacho.specs.declared.forms.Form.TheVariants.{Minutes, Upgrade, State, Serve, ServeHex, ServePackets, Download, DownloadNoisy, DownloadPackets, Read, Help, Version}
+use Rattle.trace_model.specs.declared.Card.TheVariants.{A, B}
+use Rattle.tacho.specs.declared.forms.Form.TheVariants.{Minutes, Upgrade, State, Serve, ServeHex, ServePackets, ServeCard, Download, DownloadNoisy, DownloadPackets, Read, Help, Version}
 use Rattle.tacho.specs.declared.forms.Reading.TheVariants.{View, ByHand, Match, MatchAll, Totals, Speeds, Show}
 use Rattle.tacho.specs.declared.forms.TheConstants.{PLATE, SEED_MOST}
 use Rattle.tacho.specs.Texts.{word_in, number_in}
@@ -72,6 +72,14 @@ serve-packets-row = refl
 download-packets-row : form_of (codes "download" ∷ codes "packets" ∷ []) ≡ Some DownloadPackets
 unfolding form_of
 download-packets-row = refl
+
+serve-card-row : form_of (codes "serve" ∷ codes "card" ∷ codes "a" ∷ []) ≡ Some (ServeCard A)
+unfolding form_of
+serve-card-row = refl
+
+no-third-card-row : form_of (codes "serve" ∷ codes "card" ∷ codes "c" ∷ []) ≡ None
+unfolding form_of
+no-third-card-row = refl
 
 seven-row : number_in 0 SEED_MOST (codes "7") ≡ Some 7
 seven-row = in-range 0 SEED_MOST 7 (codes "7") (omega arith) (sym (decimal_digit 7 (omega arith))) (omega arith) (omega arith)

@@ -7,6 +7,7 @@ use Rattle.log_model.specs.Causes.{device_of, cuts, tears}
 use Rattle.safety_model.specs.Safe.{Devices, card_of, breakdowns_of}
 use Rattle.run_promise.specs.Between.{devices}
 use Rattle.run_promise.specs.Whole.{NothingFailed, IsUntorn}
+use Rattle.short_promise.specs.InShort.{KeepsInShort}
 use Rattle.recorder_with_cards.specs.Words.{HaveTime, AreAfter, log_of, IsFoundLater}
 use Rattle.run_opening.specs.Opening.{IsRefused, IsAsItWas}
 use Rattle.run_opening.specs.declared.fault.RunFault.{RunFault}
@@ -81,6 +82,12 @@ pub record EndsWithCards (old new : Outside) (outcome : Outcome) (fault : Fault)
   pub run : (start : ℕ) (items : List Item) (unit card_a card_b : List ℕ)
       → StartWith unit card_a card_b start items old new → IsRun fault
       → EndsTrace unit card_a card_b start items outcome (devices_of old) (devices_of new)
+  -- IN SHORT: what each image of the unit says of each minute, what stands of what was acknowledged, what a card has,
+  -- and that neither is ahead of the other or misses a minute.
+  pub short : (start : ℕ) (items : List Item) (unit card_a card_b : List ℕ)
+      → StartWith unit card_a card_b start items old new → IsRun fault
+      → KeepsInShort (recording_of unit card_a card_b start items outcome) outcome.marks.items (devices_of old)
+      (devices_of new)
   -- Each refusal has its cause; the devices are as they were, and there is no outcome.
   pub refused : (start : ℕ) (items : List Item) (unit card_a card_b : List ℕ)
       → StartWith unit card_a card_b start items old new → IsRefusal fault

@@ -9,7 +9,7 @@ use Rattle.card_files.specs.declared.new_card.CardIdentity.{CardIdentity}
 use Rattle.unit_memory.specs.declared.format.Identity.{Identity}
 use Rattle.tacho.specs.declared.forms.Form.{Form}
 use Rattle.tacho.specs.declared.forms.Form.TheVariants.{Minutes, Record, FormatCard, FormatUnit, Upgrade, State, Serve}
-use Rattle.tacho.specs.declared.forms.Form.TheVariants.{ServeHex, ServePackets, Download, DownloadNoisy}
+use Rattle.tacho.specs.declared.forms.Form.TheVariants.{ServeHex, ServePackets, ServeCard, Download, DownloadNoisy}
 use Rattle.tacho.specs.declared.forms.Form.TheVariants.{DownloadPackets, Read, CardFile, Demo, Help, Version}
 use Rattle.tacho.specs.declared.forms.Reading.{Reading}
 use Rattle.tacho.specs.declared.forms.Reading.TheVariants.{View, ByHand, Match, MatchAll, Totals, Chart, Speeds, Show}
@@ -153,6 +153,16 @@ noisy_form seed = do
 abbrev pub noisy_of : (which seed : List ℕ) → Option Form
 noisy_of which seed = if bytes_eq which (codes "noisy") then noisy_form seed else None
 
+-- `a` and `b`, of a card that answers commands
+abbrev pub slot_form : (letter : List ℕ) → Option Form
+slot_form letter = do
+  card ← card_named letter
+  Some (ServeCard card)
+
+-- `card` and what follows it
+abbrev pub slot_of : (what letter : List ℕ) → Option Form
+slot_of what letter = if bytes_eq what (codes "card") then slot_form letter else None
+
 -- one of these, and `last N` behind it, N from 1 to 366
 abbrev pub last_form : (command which count : List ℕ) → Option Form
 last_form command which count = do
@@ -165,11 +175,12 @@ speeds_of which count = do
   minutes ← last_in SPEEDS_MOST which count
   Some (Read (Speeds (Some minutes)))
 
--- `download` and `speeds` and what follows them, or one of these
+-- `download`, `speeds` and `serve` and what follows them, or one of these
 abbrev pub form_of_three : (command which count : List ℕ) → Option Form
 form_of_three command which count =
     if bytes_eq command (codes "download") then noisy_of which count
-    else (if bytes_eq command (codes "speeds") then speeds_of which count else last_form command which count)
+    else (if bytes_eq command (codes "speeds") then speeds_of which count
+    else (if bytes_eq command (codes "serve") then slot_of which count else last_form command which count))
 
 -- what the words ask for; nothing where they are in no form
 unfoldable pub form_of : List (List ℕ) → Option Form

@@ -17,6 +17,7 @@ pub mod Formatting
 pub mod Upgrading
 pub mod State
 pub mod Serving
+pub mod ServingCard
 pub mod Downloading
 pub mod Packets
 pub mod View
@@ -29,3 +30,6 @@ pub mod CardFile
 pub mod Demo
 pub mod Help
 pub mod Program
+pub mod Sources
+pub mod Hints
+pub mod Ending

@@ -1,6 +1,6 @@
 -- THE PROGRAM: how its one call ends, and what it leaves untouched (profile). What each form promises stands in the
--- form's own file: Minutes, Recorded, Serving, Downloading, Packets, Read, CardFile, Formatting, Upgrading, State,
--- Demo, Help.
+-- form's own file: Minutes, Recorded, Serving, ServingCard, Downloading, Packets, Read, CardFile, Formatting,
+-- Upgrading, State, Demo, Help.
 use Rattle.std.specs.Prelude.{◌≡◌, ◌↔◌, ◌≤◌, List, [], Option, Some, None, IfSome}
 use Rattle.tach_media.specs.Medium.{State, Rose}
 use Rattle.trace_model.specs.declared.Card.TheVariants.{A, B}
@@ -17,7 +17,7 @@ use Rattle.tacho.specs.declared.forms.Form.{Form}
 use Rattle.tacho.specs.declared.forms.Form.TheVariants.{Minutes, Record, FormatCard, FormatUnit, Upgrade}
 use Rattle.tacho.specs.declared.forms.Form.TheVariants.{State as AskState, Serve, ServeHex, ServePackets, Download}
 use Rattle.tacho.specs.declared.forms.Form.TheVariants.{DownloadNoisy, DownloadPackets, Read, CardFile, Demo, Help}
-use Rattle.tacho.specs.declared.forms.Form.TheVariants.{Version}
+use Rattle.tacho.specs.declared.forms.Form.TheVariants.{ServeCard, Version}
 use Rattle.tacho.specs.declared.forms.Reading.TheVariants.{Show}
 use Rattle.tacho.specs.End.{status_of, IsBeforeDevices}
 use Rattle.tacho.specs.Outside.{Outside, Handed, Tells, told_by, memory_of}
@@ -25,6 +25,7 @@ use Rattle.tacho.specs.Minutes.{EndsMinutes}
 use Rattle.tacho.specs.Outcomes.{IsEmpty, IsToldForUnit}
 use Rattle.tacho.specs.Recorded.{EndsRecord}
 use Rattle.tacho.specs.Serving.{EndsServe, EndsServeHex}
+use Rattle.tacho.specs.ServingCard.{EndsServeCard}
 use Rattle.tacho.specs.Downloading.{EndsDownload}
 use Rattle.tacho.specs.Packets.{EndsServePackets, IsPacketsEnd}
 use Rattle.tacho.specs.Read.{Prints, IsBad, EndsReading}
@@ -55,6 +56,8 @@ EndsForm AskState old new ended = EndsState old new ended.fault
 EndsForm Serve old new ended = EndsServe old new ended.fault
 EndsForm ServeHex old new ended = EndsServeHex old new ended.fault
 EndsForm ServePackets old new ended = EndsServePackets old new ended.fault
+EndsForm (ServeCard A) old new ended = EndsServeCard CardA old.card_a new.card_a old new ended.fault
+EndsForm (ServeCard B) old new ended = EndsServeCard CardB old.card_b new.card_b old new ended.fault
 EndsForm Download old new ended = EndsDownload old new ended.wire ended.fault
 EndsForm (DownloadNoisy seed) old new ended = EndsDownload old new ended.wire ended.fault
 EndsForm DownloadPackets old new ended = IsPacketsEnd ended.fault
@@ -90,6 +93,8 @@ LeavesOthers (Some AskState) source unit card_a card_b = source
 LeavesOthers (Some Serve) source unit card_a card_b = card_a × card_b
 LeavesOthers (Some ServeHex) source unit card_a card_b = card_a × card_b
 LeavesOthers (Some ServePackets) source unit card_a card_b = card_a × card_b
+LeavesOthers (Some (ServeCard A)) source unit card_a card_b = unit × card_b
+LeavesOthers (Some (ServeCard B)) source unit card_a card_b = unit × card_a
 LeavesOthers (Some Download) source unit card_a card_b = source × card_a × card_b
 LeavesOthers (Some (DownloadNoisy seed)) source unit card_a card_b = source × card_a × card_b
 LeavesOthers (Some DownloadPackets) source unit card_a card_b = unit × card_a × card_b
@@ -121,13 +126,14 @@ pub record Ends (asked : Option Form) (old new : Outside) (ended : Ended) : Type
 
 -- what reads all of its source before it uses a device or prints, if it reads any, and makes all that it prints before
 -- it prints: each form but `serve`, `serve --hex`, `download`, `download noisy`, `serve packets`, `download packets`,
--- `card a` and `card b`, which write as they read, `show`, which writes as it makes, and `state` and `demo`, which read
--- none
+-- `serve card a` and `serve card b`, `card a` and `card b`, which write as they read, `show`, which writes as it makes,
+-- and `state` and `demo`, which read none
 abbrev pub ReadsFirst : Option Form → Type 0
 ReadsFirst (Some AskState) = ⊥
 ReadsFirst (Some Serve) = ⊥
 ReadsFirst (Some ServeHex) = ⊥
 ReadsFirst (Some ServePackets) = ⊥
+ReadsFirst (Some (ServeCard card)) = ⊥
 ReadsFirst (Some Download) = ⊥
 ReadsFirst (Some (DownloadNoisy seed)) = ⊥
 ReadsFirst (Some DownloadPackets) = ⊥

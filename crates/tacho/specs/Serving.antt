@@ -14,9 +14,11 @@ use Rattle.link_session.specs.Served.{IsServed, answers_to}
 use Rattle.link_session.specs.ServedLines.{AreServed, WholeAnswered}
 use Rattle.link_session.specs.Asked.{Asking, AnswersInTime}
 use Rattle.tacho.specs.declared.forms.Form.{Form}
+use Rattle.trace_model.specs.declared.Card.TheVariants.{A, B}
+use Rattle.card_service.specs.Serving.{CardInTime}
 use Rattle.packet_service.specs.Serving.{AllAnswered}
 use Rattle.packet_service.specs.Loading.{LinkInTime}
-use Rattle.tacho.specs.declared.forms.Form.TheVariants.{Serve, ServeHex, ServePackets, DownloadPackets}
+use Rattle.tacho.specs.declared.forms.Form.TheVariants.{Serve, ServeHex, ServePackets, ServeCard, DownloadPackets}
 use Rattle.tacho.specs.declared.end.Fault.{Fault}
 use Rattle.tacho.specs.declared.end.Fault.TheVariants.{Done, BadTrace, TooLong, BadUnit, ReadFault, WriteFault}
 use Rattle.tacho.specs.declared.end.Fault.TheVariants.{MediumFault, Memory}
@@ -71,8 +73,9 @@ pub record EndsServeHex (old new : Outside) (fault : Fault) : Type 0 where
   pub unit : ReadsIfAny old.unit new.unit (is_medium_fault fault)
 
 -- WHAT A LOADER HAS SEEN at each read of its bytes, where it tells: over a unit that tells its image, the answers to
--- all that it had sent; of lines, to all that had ended; of packets, to all that were whole. And a unit that waits for
--- a loader's packets has had those that are sent behind all that came. Of other forms nothing is said.
+-- all that it had sent; of lines, to all that had ended; of packets, also of a card's, to all that were whole. And a
+-- unit that waits for a loader's packets has had those that are sent behind all that came. Of other forms nothing is
+-- said.
 abbrev pub FormInTime : Form → (old new : Outside) → (before now : Option (List Asking)) → Type 0
 FormInTime Serve old new before now = IfSome old.unit.image
     (λ x. AnswersInTime (λ came held sunk. Appends held sunk (answers_to (content_sent x) came))
@@ -81,6 +84,10 @@ FormInTime ServeHex old new before now = IfSome old.unit.image
     (λ x. AnswersInTime (WholeAnswered (content_sent x)) old.source.left new.source.left old.sink.held before now)
 FormInTime ServePackets old new before now = AnswersInTime (AllAnswered old.unit.image) old.source.left new.source.left
     old.sink.held before now
+FormInTime (ServeCard A) old new before now = AnswersInTime (CardInTime old.card_a.memory old.card_a.state)
+    old.source.left new.source.left old.sink.held before now
+FormInTime (ServeCard B) old new before now = AnswersInTime (CardInTime old.card_b.memory old.card_b.state)
+    old.source.left new.source.left old.sink.held before now
 FormInTime DownloadPackets old new before now = AnswersInTime LinkInTime old.source.left new.source.left old.sink.held
     before now
 FormInTime form old new before now = ⊤

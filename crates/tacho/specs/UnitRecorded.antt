@@ -9,6 +9,7 @@ use Rattle.safety_model.specs.Unit.{HasEachDecided, IsFilled}
 use Rattle.recorder_with_cards.specs.Whole.{HasWholeOdometer, HasDayOdometer}
 use Rattle.recorder_with_cards.specs.Ends.{recording_of}
 use Rattle.run_promise.specs.Whole.{NothingFailed}
+use Rattle.short_promise.specs.InShort.{KeepsAlone}
 use Rattle.run_opening.specs.Units.{IsUnitRefused}
 use Rattle.run_opening.specs.declared.fault.RunFault.{RunFault}
 use Rattle.recorder_with_cards.specs.Words.{log_of, IsFoundLater, IsLater}
@@ -23,7 +24,7 @@ use Rattle.unit_model.specs.Decoding.{Decodes, first_bad_place}
 use Rattle.tacho.specs.declared.end.Fault.{Fault}
 use Rattle.tacho.specs.declared.end.Fault.TheVariants.{Done, BadUnit, ClockBack, MediumFault}
 use Rattle.tacho.specs.Blank.{no_image}
-use Rattle.tacho.specs.Alone.{IsForUnit, NoVerdict, counts, StartsAs, IsAlone, told_of, history_of}
+use Rattle.tacho.specs.Alone.{IsForUnit, NoVerdict, counts, StartsAs, IsAlone, told_of, history_of, lost_of}
 use Rattle.tacho.specs.Outside.{Outside}
 use Rattle.tacho.specs.Outcomes.{IsEmpty, IsRun, IsRefusal, SourceTells, refusal_of_run}
 
@@ -41,6 +42,12 @@ pub record Starts (x : List ℕ) (old new : State) : Type 0 where
 -- what a run has recorded of a trace, whatever the cards bring: it began with this image, as the unit stood then
 abbrev pub IsRecorded : (x : List ℕ) → (start : ℕ) → List Item → Outcome → (began unit : State) → Type 0
 IsRecorded x start items outcome began unit = (cards : Start) → IsAlone cards x start items outcome began unit
+
+-- and what it keeps of it, in short
+abbrev pub IsKept : (x : List ℕ) → (start : ℕ) → List Item → Outcome → (began unit : State) → Type 0
+IsKept x start items outcome began unit = (cards : Start)
+    → KeepsAlone x (history_of (rule_of x) cards outcome start items) (lost_of (rule_of x) cards outcome start items)
+    (rule_of x) (log_of outcome) (told_of outcome start items) outcome.marks.items began unit
 
 -- each decided minute of a trace stands in the history, whatever the cards bring, and each image that a stop may leave
 -- has the start's days with all of it, of which the newest 366 are retained, and its odometer with each whole
@@ -85,6 +92,11 @@ pub record EndsOnUnit (old new : Outside) (outcome : Outcome) (fault : Fault) : 
   pub run : (start : ℕ) (items : List Item) (x : List ℕ) → SourceTells old start items → Starts x old.unit new.unit
       → IsRun fault
       → IsRecorded x start items outcome old.unit new.unit
+  -- IN SHORT: what each image of the unit says of each minute, what stands of what was acknowledged, and that no minute
+  -- is missing.
+  pub short : (start : ℕ) (items : List Item) (x : List ℕ) → SourceTells old start items → Starts x old.unit new.unit
+      → IsRun fault
+      → IsKept x start items outcome old.unit new.unit
   -- Its refused actions are those of the seconds without power, and each cut was an `off` line's or a breakdown of the
   -- unit.
   pub caused : (start : ℕ) (items : List Item) (x : List ℕ) → SourceTells old start items → Starts x old.unit new.unit

@@ -18,7 +18,7 @@ pub enum Fault {
     BadTrace(u32),
     /// At this line of the trace, from 1, a limit is passed first. 0 tells of no line: the source has more than
     /// 16777216 bytes, or of `serve packets` and `download packets` a datagram has more than 264, or 4294967295 reads
-    /// were made.
+    /// were made, or of `serve card` 18446744073709551615.
     TooLong(u32),
     /// The unit's image does not decode: the place of the first field, in order of places, that fails.
     BadUnit(u32),
@@ -44,7 +44,7 @@ pub enum Fault {
     Changed,
     /// The file of a download by packets failed.
     FileFault,
-    /// The source of a download by packets ended before the download did.
+    /// The source of a download by packets ended before the download did, or that of `serve card` inside a packet.
     LinkEnded,
 }
 

@@ -4,7 +4,7 @@ ghost use Rattle.std.specs.List.{list_all};
 ghost use Rattle.tacho_types.specs.Texts.{padded_text};
 ghost use Rattle.tacho.specs.Texts.{is_character, is_word, begins_with_dash, word_in, number_in};
 ghost use Rattle.tacho.specs.Forms.{name_in, card_in, registration_in, unit_in, reading_of, form_of_one, form_of_two};
-ghost use Rattle.tacho.specs.Forms.{file_of, demo_of, last_in, days_form, last_form, speeds_of, noisy_of};
+ghost use Rattle.tacho.specs.Forms.{file_of, demo_of, last_in, days_form, last_form, speeds_of, noisy_of, slot_of};
 ghost use Rattle.tacho.specs.Forms.{form_of_three, format_of, form_of_six, form_of};
 
 use crate::words::Words;
@@ -76,6 +76,8 @@ pub enum Form {
     /// `download noisy X`: the same over a link that loses, repeats and delays, as it is drawn from this number, from 0
     /// to 2147483647.
     DownloadNoisy { seed: u32 },
+    /// `serve card a` and `serve card b`: the card answers the commands that come as packets.
+    ServeCard { card: Card },
     /// `download packets`: the loader's end of a link of packets; the unit's file goes to a file.
     DownloadPackets,
     /// What a file tells is printed: it is read to its end first.
@@ -86,7 +88,7 @@ pub enum Form {
     Demo { seed: u32 },
     /// `help` and `--help`: the forms are printed, a line each.
     Help,
-    /// `--version`: the version is printed, and that of the toolchain.
+    /// `--version`: the version is printed, and the logic of the toolchain.
     Version,
 }
 
@@ -129,7 +131,7 @@ pub fn form_of(words: &Words) -> Option<Form>
 }
 
 /// The form of one word. `--help` and `--version` are the only such that begin with `-`.
-fn form_of_one(word: &str) -> Option<Form>
+pub(crate) fn form_of_one(word: &str) -> Option<Form>
     ensures { result ≡ form_of_one word.now }
 {
     if is_text(word, "minutes") {
@@ -188,7 +190,7 @@ fn reading_of(word: &str) -> Option<Reading>
 }
 
 /// The form of two words. The second may begin with `-`.
-fn form_of_two(command: &str, option: &str) -> Option<Form>
+pub(crate) fn form_of_two(command: &str, option: &str) -> Option<Form>
     ensures { result ≡ form_of_two command.now option.now }
 {
     if is_text(command, "minutes") && is_text(option, "2009") {
@@ -250,6 +252,9 @@ fn form_of_three(command: &str, which: &str, count: &str) -> Option<Form>
     if is_text(command, "speeds") {
         return speeds_of(which, count);
     }
+    if is_text(command, "serve") {
+        return slot_of(which, count);
+    }
     last_form(command, which, count)
 }
 
@@ -260,6 +265,17 @@ fn noisy_of(which: &str, seed: &str) -> Option<Form>
     if is_text(which, "noisy") {
         let seed = number(seed, 0, SEED_MOST)?;
         return Some(Form::DownloadNoisy { seed });
+    }
+    None
+}
+
+/// Which card is to answer commands.
+fn slot_of(what: &str, letter: &str) -> Option<Form>
+    ensures { result ≡ slot_of what.now letter.now }
+{
+    if is_text(what, "card") {
+        let card = Card::named(letter.as_bytes())?;
+        return Some(Form::ServeCard { card });
     }
     None
 }
@@ -352,7 +368,7 @@ fn format_of(what: &str, first: &str, second: &str, third: &str, fourth: &str) -
 }
 
 /// Whether a word is this text.
-fn is_text(word: &str, text: &str) -> bool
+pub(crate) fn is_text(word: &str, text: &str) -> bool
     ensures { result ≡ bytes_eq word.now text.now }
 {
     word == text
@@ -427,7 +443,7 @@ fn vehicle_number(word: &str) -> Option<[u8; VIN]>
 }
 
 /// The number in this range that a word spells, without a sign or a leading zero.
-fn number(word: &str, least: u32, most: u32) -> Option<u32>
+pub(crate) fn number(word: &str, least: u32, most: u32) -> Option<u32>
     ensures value { result ≡ number_in least most word.now }
     ensures most { IfSome result (λ n. n ≤ most) }
 {
@@ -468,7 +484,7 @@ fn name(word: &str) -> Option<Name36>
 }
 
 /// Whether a word has so many characters, each from 21 to 7E and the first no `-`.
-fn is_word(text: &[u8], least: usize, most: usize) -> bool
+pub(crate) fn is_word(text: &[u8], least: usize, most: usize) -> bool
     ensures { result ≡ is_word least most text.now }
 {
     least <= text.len() && text.len() <= most && !begins_with_dash(text) && has_characters(text)

@@ -4,6 +4,7 @@ ghost use Rattle.tacho.specs.Forms.{form_of};
 ghost use Rattle.tacho.specs.Outside.{outside, tells, handed};
 ghost use Rattle.tacho.specs.declared.forms.Form.TheVariants.{Record as FormOfRecord, FormatCard as FormOfFormat};
 ghost use Rattle.tacho.specs.declared.forms.Form.TheVariants.{CardFile as FormOfCard, Demo as FormOfDemo};
+ghost use Rattle.tacho.specs.declared.forms.Form.TheVariants.{ServeCard as FormOfSlot};
 ghost use Rattle.tacho.specs.Outcomes.{IsToldForUnit};
 ghost use Rattle.tacho.specs.Program.{AreDevices, Ends, Spares, Does};
 ghost use Rattle.tacho.specs.Serving.{AnswersWaiting};
@@ -22,11 +23,13 @@ use crate::packets_command::packets_end;
 use crate::reading_command::print_reading;
 use crate::record_command::record;
 use crate::serve_command::{lines_end, serve_end};
+use crate::slot_command::slot_end;
 use crate::state_command::print_state;
 use crate::upgrade_command::upgrade_unit;
 use crate::words::Words;
 use card_download::write_card_file;
 use card_files::CardIdentity;
+use card_service::serve_card;
 use device_state::devices_state;
 use link_session::{Peer, serve, serve_lines};
 use noisy_download::download_noisy;
@@ -52,6 +55,8 @@ use unit_download::{Wire, download};
 ///   over a link that loses, repeats and delays; `download packets` asks by packets, and writes the unit's file to the
 ///   file.
 /// - `card a` and `card b` read the card by its commands, and write its card file to the sink.
+/// - `serve card a` and `serve card b` let the card answer the commands that come as packets from the source, and write
+///   its answers to the sink. An update is written before its answer.
 /// - `state` reads the unit and the cards, and writes what they tell of themselves, a line each.
 /// - `format a` and `format b` issue the card anew, of the largest sizes, `format unit` makes the unit new; they write
 ///   `formatted` to the sink. `upgrade` gives the unit version 2 with the amended rule of minutes, and writes
@@ -91,8 +96,8 @@ pub fn tacho<S: Peer<K>, K: Sink, F: Sink, U: Medium, C: Chip>(
 
     // What the form does not name is as it was, and so are the cards where `record` reads a trace without a card's
     // line; so are the devices where memory ran out, and the sink where nothing is to be printed, but for `serve`,
-    // `serve --hex` and `download`, which write as they read, for `show`, which leaves the sink as it was where its
-    // file is none, and for `card a` and `card b`, which do so where a field is named.
+    // `serve --hex`, `serve card` and `download`, which write as they read, for `show`, which leaves the sink as it was
+    // where its file is none, and for `card a` and `card b`, which do so where a field is named.
     ensures spares { Spares (form_of words.now) result.fault (IsToldForUnit (S.left source.old))
         (source.new ≡ source.old) (sink.new ≡ sink.old) (unit.new ≡ unit.old) (card_a.new ≡ card_a.old)
         (card_b.new ≡ card_b.old) }
@@ -156,6 +161,7 @@ fn perform<S: Peer<K>, K: Sink, F: Sink, U: Medium, C: Chip>(
         Form::Serve => Ended::by_fault(alloc, serve_end(serve(source, sink, unit))),
         Form::ServeHex => Ended::by_fault(alloc, lines_end(serve_lines(alloc, source, sink, unit))),
         Form::ServePackets => Ended::by_fault(alloc, serve_end(serve_packets(source, sink, unit))),
+        Form::ServeCard { card } => perform_slot(alloc, card, source, sink, unit, card_a, card_b),
         Form::DownloadPackets => Ended::by_fault(
             alloc,
             packets_end(download_packets(alloc, source, sink, file)),
@@ -251,6 +257,37 @@ fn perform_card<S: Source, K: Sink, U: Medium, C: Chip>(
         Card::B => Ended::by_fault(
             alloc,
             card_end(Device::CardB, write_card_file(card_b, sink)),
+        ),
+    }
+}
+
+/// Does what `serve card a` or `serve card b` asks for; it uses the source, the sink and the card alone.
+fn perform_slot<S: Peer<K>, K: Sink, U: Medium, C: Chip>(
+    alloc: Global,
+    card: Card,
+    source: &mut S,
+    sink: &mut K,
+    unit: &mut U,
+    card_a: &mut C,
+    card_b: &mut C,
+) -> Ended
+    ensures does { Does (tells S.left S.faults K.held K.faults U.state C.state C.card) (Some (FormOfSlot card))
+        (handed source.old sink.old unit.old card_a.old card_b.old)
+        (handed source.new sink.new unit.new card_a.new card_b.new) result }
+    ensures in_time { AnswersWaiting (Some (FormOfSlot card))
+        (outside S.left S.faults K.held K.faults U.state C.state C.card source.old sink.old unit.old card_a.old
+        card_b.old)
+        (outside S.left S.faults K.held K.faults U.state C.state C.card source.new sink.new unit.new card_a.new
+        card_b.new) (S.asked source.old) (S.asked source.new) }
+{
+    match card {
+        Card::A => Ended::by_fault(
+            alloc,
+            slot_end(Device::CardA, serve_card(source, sink, card_a)),
+        ),
+        Card::B => Ended::by_fault(
+            alloc,
+            slot_end(Device::CardB, serve_card(source, sink, card_b)),
         ),
     }
 }

@@ -4,6 +4,8 @@
 #[cfg(test)]
 mod chip_tests;
 #[cfg(test)]
+mod disk_tests;
+#[cfg(test)]
 mod file_tests;
 #[cfg(test)]
 mod media_file_tests;

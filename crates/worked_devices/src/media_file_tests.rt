@@ -1,4 +1,4 @@
-use sector_medium::{FileDisk, Missing, RedoMedium};
+use sector_medium::{CopyNames, FileDisk, Missing, RedoMedium};
 use std::fs;
 use std::fs::File;
 use std::os::fd::AsRawFd;
@@ -29,7 +29,11 @@ fn does_not_read<M: Medium>(rt: &impl Abort, medium: &mut M, place: u32) {
 }
 
 /// Bytes are written at a place of a medium.
-fn write(medium: &mut RedoMedium<FileDisk<'_, HostRuntime>>, place: u32, bytes: &[u8]) -> Result<(), Failed> {
+fn write(
+    medium: &mut RedoMedium<FileDisk<'_, HostRuntime>>,
+    place: u32,
+    bytes: &[u8],
+) -> Result<(), Failed> {
     if place > 60 || bytes.len() > 4 || medium.size() < place + 4 {
         return Err(Failed);
     }
@@ -37,12 +41,21 @@ fn write(medium: &mut RedoMedium<FileDisk<'_, HostRuntime>>, place: u32, bytes: 
 }
 
 /// Bytes can be written at a place of a medium.
-fn writes(rt: &impl Abort, medium: &mut RedoMedium<FileDisk<'_, HostRuntime>>, place: u32, bytes: &[u8]) {
+fn writes(
+    rt: &impl Abort,
+    medium: &mut RedoMedium<FileDisk<'_, HostRuntime>>,
+    place: u32,
+    bytes: &[u8],
+) {
     assert_eq!(rt; write(medium, place, bytes), Ok(()));
 }
 
 /// Four bytes cannot be written at the front of a medium.
-fn does_not_write(rt: &impl Abort, medium: &mut RedoMedium<FileDisk<'_, HostRuntime>>, bytes: &[u8; 4]) {
+fn does_not_write(
+    rt: &impl Abort,
+    medium: &mut RedoMedium<FileDisk<'_, HostRuntime>>,
+    bytes: &[u8; 4],
+) {
     assert!(rt; medium.size() >= 8);
     assert_eq!(rt; write(medium, 0, bytes), Err(Failed));
 }
@@ -120,23 +133,63 @@ fn of_a_longer_file_the_front(rt: HostRuntime) {
     assert!(rt; remove(&rt, "tach_media_long"));
 }
 
+/// A medium whose file, or its folder, lacks this tells so, and each call fails.
+fn lacks(rt: &impl Abort, medium: &mut RedoMedium<FileDisk<'_, HostRuntime>>, missing: Missing) {
+    assert_eq!(rt; medium.disk().missing(), None);
+    does_not_read(rt, medium, 0);
+    assert_eq!(rt; medium.disk().missing(), Some(missing));
+    does_not_write(rt, medium, b"abcd");
+    does_not_revive(rt, medium);
+    assert_eq!(rt; medium.disk().missing(), Some(missing));
+}
+
+/// One of a single byte less than its device is too short, and is left so.
 #[test]
-fn a_short_file_grows_by_a_write(rt: HostRuntime) {
-    assert!(rt; put_file(&rt, "tach_media_short", b"01234567"));
-    let mut medium = RedoMedium::new(FileDisk::new(&rt, "tach_media_short", 16), 16);
-    fails_behind_the_end(&rt, &mut medium);
-    does_not_read(&rt, &mut medium, 0);
-    revives(&rt, &mut medium);
-    reads(&rt, &mut medium, 4, b"4567");
-    writes(&rt, &mut medium, 12, b"abcd");
-    reads(&rt, &mut medium, 10, b"\0\0ab");
+fn a_file_that_is_too_short(rt: HostRuntime) {
+    assert!(rt; put_file(&rt, "tach_media_short", b"012345678901234"));
+    {
+        let mut medium = RedoMedium::new(FileDisk::new(&rt, "tach_media_short", 16), 16);
+        lacks(&rt, &mut medium, Missing::Bytes);
+    }
+    let mut read = RedoMedium::new(FileDisk::for_reading(&rt, "tach_media_short", 16), 16);
+    lacks(&rt, &mut read, Missing::Bytes);
+    assert!(rt; holds(&rt, "tach_media_short", b"012345678901234"));
     assert!(rt; remove(&rt, "tach_media_short"));
 }
 
-/// A medium of 16 bytes does not read past the first eight.
-fn fails_behind_the_end<M: Medium>(rt: &impl Abort, medium: &mut M) {
-    assert_eq!(rt; medium.size(), 16);
-    assert_eq!(rt; four(medium, 6), Err(Failed));
+/// Where the device is made anew such a file is made whole, and what it held is copied first, where that is asked for.
+/// Whether the file was taken away is told.
+#[test]
+fn a_short_file_of_a_new_device(rt: HostRuntime) {
+    assert!(rt; put_file(&rt, "tach_media_renewed", b"01234567"));
+    {
+        let mut medium = RedoMedium::new(
+            FileDisk::renewing(&rt, "tach_media_renewed", None, 16),
+            16,
+        );
+        reads(&rt, &mut medium, 6, b"67\0\0");
+        assert!(rt; is_long(&rt, "tach_media_renewed", 16));
+        assert_eq!(rt; medium.disk().missing(), None);
+    }
+    let names = CopyNames {
+        path: "tach_media_renewed.before",
+        unfinished: "tach_media_renewed.part",
+    };
+    let disk = FileDisk::without_waiting(&rt, "tach_media_renewed", Some(names), 32);
+    let mut shown = RedoMedium::new(disk, 32);
+    reads(&rt, &mut shown, 28, &[0; 4]);
+    assert!(rt; is_long(&rt, "tach_media_renewed", 32));
+    assert!(rt;
+        holds(
+            &rt,
+            "tach_media_renewed.before",
+            b"01234567\0\0\0\0\0\0\0\0"
+        )
+    );
+    assert!(rt; !shown.disk().is_elsewhere());
+    assert!(rt; remove(&rt, "tach_media_renewed"));
+    assert!(rt; shown.disk().is_elsewhere());
+    assert!(rt; remove(&rt, "tach_media_renewed.before"));
 }
 
 /// While a medium has its file, another of that file does not work.
@@ -259,16 +312,6 @@ fn a_file_is_made_for_reading(rt: HostRuntime) {
     assert!(rt; remove(&rt, "tach_media_bare"));
 }
 
-/// A medium whose file's folder cannot be synchronised tells that.
-fn lacks_its_folder(rt: &impl Abort, medium: &mut RedoMedium<FileDisk<'_, HostRuntime>>) {
-    assert_eq!(rt; medium.disk().missing(), None);
-    does_not_read(rt, medium, 0);
-    assert_eq!(rt; medium.disk().missing(), Some(Missing::SynchronisedFolders));
-    does_not_write(rt, medium, b"abcd");
-    does_not_revive(rt, medium);
-    assert_eq!(rt; medium.disk().missing(), Some(Missing::SynchronisedFolders));
-}
-
 /// By the folder of the files that a process has open each can be opened anew, and no name there stands on a disk.
 #[test]
 fn a_folder_that_cannot_be_synchronised(rt: HostRuntime) -> Result<(), Fail> {
@@ -276,7 +319,7 @@ fn a_folder_that_cannot_be_synchronised(rt: HostRuntime) -> Result<(), Fail> {
     let number = kept.as_raw_fd();
     let path = format!(in rt.alloc(); "/proc/self/fd/{number}")?;
     let mut medium = RedoMedium::new(FileDisk::new(&rt, path.as_str(), 8), 8);
-    lacks_its_folder(&rt, &mut medium);
+    lacks(&rt, &mut medium, Missing::SynchronisedFolders);
     assert!(rt; is_long(&rt, "tach_media_open", 0));
     let mut made = RedoMedium::new(FileDisk::new(&rt, "tach_media_open", 8), 8);
     reads(&rt, &mut made, 4, &[0; 4]);
@@ -285,11 +328,29 @@ fn a_folder_that_cannot_be_synchronised(rt: HostRuntime) -> Result<(), Fail> {
     Ok(())
 }
 
+/// A file that was there is used also where its folder cannot be synchronised.
+#[test]
+fn a_file_that_was_there(rt: HostRuntime) -> Result<(), Fail> {
+    assert!(rt; put_file(&rt, "tach_media_there", b"01234567"));
+    let kept = File::open(&rt, "tach_media_there")?;
+    let number = kept.as_raw_fd();
+    let path = format!(in rt.alloc(); "/proc/self/fd/{number}")?;
+    let mut medium = RedoMedium::new(FileDisk::new(&rt, path.as_str(), 8), 8);
+    writes(&rt, &mut medium, 0, b"abcd");
+    assert_eq!(rt; medium.disk().missing(), None);
+    assert!(rt; holds(&rt, "tach_media_there", b"abcd4567"));
+    assert!(rt; remove(&rt, "tach_media_there"));
+    Ok(())
+}
+
 /// What of a process goes into its core file can be written, and stands on no disk.
 #[test]
 fn a_write_that_cannot_be_synchronised(rt: HostRuntime) {
     {
-        let mut shown = RedoMedium::new(FileDisk::without_waiting(&rt, "/proc/self/coredump_filter", 8), 8);
+        let mut shown = RedoMedium::new(
+            FileDisk::without_waiting(&rt, "/proc/self/coredump_filter", None, 8),
+            8,
+        );
         writes(&rt, &mut shown, 0, b"0x33");
         revives(&rt, &mut shown);
     }

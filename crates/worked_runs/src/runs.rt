@@ -6,4 +6,5 @@ mod matching;
 mod ran;
 mod rows;
 mod running;
+mod sectors;
 mod table;

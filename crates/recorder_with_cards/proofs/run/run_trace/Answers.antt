@@ -47,6 +47,7 @@ use Rattle.recorder_with_cards.proofs.PowerOns.{told-most}
 use Rattle.recorder_with_cards.proofs.Writes.{between-item, between-within}
 use Rattle.recorder_with_cards.specs.Gone.{first_waiting}
 use Rattle.recorder_with_cards.specs.Writes.{WritesBetween, power_ons_told, powered, turns_of}
+use Rattle.recorder_with_cards.proofs.InShort.{recorded-keeps}
 use Rattle.recorder_with_cards.proofs.run.run_trace.Goals as goal
 
 -- ---- the opening
@@ -358,6 +359,12 @@ returns-clause-recorded g c = λ x a b is.
     (λ lit. let on = v.going.lit (ap is_lit lit) in (ungiven_of on.span, on.cabin))
     (g.met.U.Medium.coherent c.loop-i.unit) (both (λ k. IsCoherent (card_of now k)) (g.met.C.Chip.coherent c.loop-i.card_a) (g.met.C.Chip.coherent c.loop-i.card_b)) told.0 told.1 in
     record { ends = all; counted = are-counted _ (recording_of x a b start items c.loop-i.outcome) began now all.ends.caused.causes (returns-clause-breakdowns g c).told }
+
+pub returns-clause-short : goal.returns-clause-short
+returns-clause-short g c = λ x a b is. recorded-keeps x a b c.args.trace.now.start c.args.trace.now.items c.loop-i.outcome
+    (devices (g.U.Medium.state c.args.unit.now) (g.C.Chip.state c.args.card_a.now) (g.C.Chip.state c.args.card_b.now))
+    (devices (g.U.Medium.state c.loop-i.unit) (g.C.Chip.state c.loop-i.card_a) (g.C.Chip.state c.loop-i.card_b))
+    (g.met.U.Medium.coherent c.loop-i.unit) c.loop-i.invariant.later.unit.clock (returns-clause-recorded g c x a b is)
 
 -- ---- its writes
 

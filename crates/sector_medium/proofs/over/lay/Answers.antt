@@ -1,4 +1,4 @@
-use Rattle.std.proofs.Common.{◌≡◌, ℕ, ◌+◌, ◌-◌, List, length, take, drop, sym, ◌∙◌, ap, arith}
+use Rattle.std.proofs.Common.{length, sym, ◌∙◌, arith}
 use Rattle.sector_medium.proofs.Laying.{lay_none, laid}
 use Rattle.sector_medium.proofs.over.lay.Goals as goal
 

@@ -1,4 +1,4 @@
-use Rattle.std.proofs.Common.{rules, ◌≡◌, true, false, is_err, ℕ, ◌+◌, length, ◌∙◌, ap, sym, arith, refl}
+use Rattle.std.proofs.Common.{rules, ◌≡◌, true, is_err, length, ◌∙◌, ap, sym, arith, refl}
 use Rattle.tach_media.specs.Medium.{bytes_at}
 use Rattle.sector_medium.specs.Redo.{recovered}
 use Rattle.sector_medium.specs.RedoLaws.{record_behind}

@@ -1,8 +1,8 @@
-use Rattle.std.proofs.Common.{◌≡◌, ◌+◌, ◌∙◌, ap, ℕ, IfSome}
+use Rattle.std.proofs.Common.{◌≡◌, ◌∙◌, ap, ℕ}
 use Rattle.card_layout.specs.Images.{number_at}
 use Rattle.tach_media.proofs.Runs.{from_told}
-use Rattle.sector_medium.specs.Redo.{record_place, gate_of}
-use Rattle.sector_medium.proofs.Known.{known_closed, told_still}
+use Rattle.sector_medium.specs.Redo.{gate_of}
+use Rattle.sector_medium.proofs.Known.{told_still}
 use Rattle.sector_medium.proofs.record.look.Goals as goal
 
 pub look_around-requires-clause-gate : goal.look_around-requires-clause-gate

@@ -2,7 +2,7 @@ use Rattle.std.proofs.Common.{◌≡◌, ◌+◌, ◌-◌, ◌*◌, true, false,
 use Rattle.std.proofs.lemmas.Bool.Decides.{nat_tests}
 use Rattle.tach_media.specs.Medium.{bytes_at}
 use Rattle.tach_media.proofs.Runs.{from_told, reads_then}
-use Rattle.sector_medium.specs.Redo.{record_place, gate_of, is_matched, window, new_bytes}
+use Rattle.sector_medium.specs.Redo.{gate_of, is_matched, window, new_bytes}
 use Rattle.sector_medium.specs.RedoLaws.{gate_fits}
 use Rattle.sector_medium.proofs.Known.{known_stale, known_open, told_still}
 use Rattle.sector_medium.proofs.record.look_around.Goals as goal

@@ -1,5 +1,3 @@
-use Rattle.tach_media.proofs.Runs.{no_reads}
-use Rattle.sector_medium.specs.Recovered.{on_disk}
 use Rattle.sector_medium.proofs.Lifts.{lift_reads, room_stays}
 use Rattle.sector_medium.proofs.record.seen.Goals as goal
 

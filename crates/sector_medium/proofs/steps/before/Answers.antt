@@ -1,4 +1,3 @@
-use Rattle.std.proofs.Common.{refl}
 use Rattle.tach_media.proofs.Runs.{on_ok}
 use Rattle.sector_medium.proofs.Moves.{wrote, before_reads, before_half}
 use Rattle.sector_medium.proofs.steps.before.Goals as goal

@@ -1,4 +1,4 @@
-use Rattle.std.proofs.Common.{ℕ, ◌+◌, List, IfSome, arith, sym, subst, ◌∙◌}
+use Rattle.std.proofs.Common.{ℕ, IfSome, arith, sym, subst, ◌∙◌}
 use Rattle.card_layout.proofs.Spelled.{bytes_filled}
 use Rattle.tach_media.proofs.Runs.{on_ok}
 use Rattle.sector_medium.specs.Redo.{IsOpen, IsReady}

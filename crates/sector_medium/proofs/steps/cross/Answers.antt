@@ -1,4 +1,4 @@
-use Rattle.std.proofs.Common.{rules, ◌≡◌, true, is_err, refl}
+use Rattle.std.proofs.Common.{rules, ◌≡◌, true, is_err}
 use Rattle.sector_medium.proofs.Lifts.{read_change, change_read, read_failed, changes_as}
 use Rattle.sector_medium.proofs.Moves.{crossing, gate_around}
 use Rattle.sector_medium.proofs.steps.cross.Goals as goal

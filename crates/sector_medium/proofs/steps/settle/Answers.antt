@@ -1,4 +1,4 @@
-use Rattle.std.proofs.Common.{◌≡◌, List, ℕ, take, ⊎_elim}
+use Rattle.std.proofs.Common.{◌≡◌, take, ⊎_elim}
 use Rattle.tach_media.proofs.Runs.{if_told}
 use Rattle.sector_medium.specs.Redo.{recovered, IsShut, IsOpen}
 use Rattle.sector_medium.proofs.Redos.{shut_front}

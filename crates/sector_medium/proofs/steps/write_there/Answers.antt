@@ -1,4 +1,4 @@
-use Rattle.std.proofs.Common.{refl, arith}
+use Rattle.std.proofs.Common.{arith}
 use Rattle.tach_media.proofs.Runs.{on_ok}
 use Rattle.sector_medium.specs.RedoLaws.{record_behind}
 use Rattle.sector_medium.proofs.Lifts.{may_write}

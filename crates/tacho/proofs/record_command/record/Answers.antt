@@ -70,7 +70,7 @@ returns-clause-ends g c =
     let f = c.in_default-run_trace.ensures in
     ends-run _ _ c.run_trace.new.outcome c.print_outcome-2.result e.end e.judged.finds_bad_line e.judged.finds_too_long
     (λ fault ran rose. inr (inr (cards-run _ _ c.run_trace.new.outcome c.in_ok-trace.trace.start c.in_ok-trace.trace.items (c.is_for_unit.ensures.card c.if-is_for_unit.false) f.goes.later f.breakdowns.broke f.goes.most (let last = e.read.well_formed.within.1 in omega (arith, last)) (let few = e.read.few in omega (arith, few)) e.judged.reads
-    (λ x a b begins clocks. (f.recorded x a b (record { begins = begins; time = clocks; few = omega (arith, e.read.few) })).ends) f.begun f.breakdowns.calm f.breakdowns.still f.breakdowns.told fault ran rose)))
+    (g.met.U.Medium.coherent c.run_trace.new.unit) (λ x a b begins clocks. (f.recorded x a b (record { begins = begins; time = clocks; few = omega (arith, e.read.few) })).ends) f.begun f.breakdowns.calm f.breakdowns.still f.breakdowns.told fault ran rose)))
     c.print_outcome-2.ensures.ok c.print_outcome-2.ensures.err c.print_outcome-2.ensures.cause
 
 -- ---- the cause of a refusal

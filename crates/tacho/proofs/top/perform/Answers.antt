@@ -166,3 +166,6 @@ returns-in-FormatUnit-clause-does g c = record {
   ends = rw (c.in-FormatUnit.is, c.by_answer-in-FormatUnit.ensures.2) (search rules);
   spares = rw (c.in-FormatUnit.is, c.by_answer-in-FormatUnit.ensures.2) (search rules);
 }
+
+pub returns-in-ServeCard-clause-in_time : goal.returns-in-ServeCard-clause-in_time
+returns-in-ServeCard-clause-in_time g c = rw c.in-ServeCard.is c.perform_slot.ensures.in_time

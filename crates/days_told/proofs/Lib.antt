@@ -1,0 +1,4 @@
+pub mod Turning
+pub mod Saying
+pub mod Lost
+pub mod Year
