@@ -17,5 +17,5 @@ _tacho() {
   mapfile -t COMPREPLY < <(compgen -W "$words" -- "$word")
 }
 
-# Where no word is to come, as behind `<` and `>`, bash completes the names of files.
+# Where no word is to come, as behind `<` and `>` and where a file may be named, bash completes the names of files.
 complete -o default -F _tacho tacho

@@ -4,13 +4,14 @@ use Rattle.run_model.specs.Names.{device_name}
 use Rattle.run_model.specs.declared.Device.{Device}
 use Rattle.run_model.specs.declared.Device.TheVariants.{Unit as OfUnit, CardA, CardB}
 use Rattle.sector_medium.specs.declared.file.Missing.{Missing}
-use Rattle.sector_medium.specs.declared.file.Missing.TheVariants.{Locks, SynchronisedFolders, Bytes}
+use Rattle.sector_medium.specs.declared.file.Missing.TheVariants.{Locks, SynchronisedFolders, Bytes, Copy}
 
 -- what is missing
 abbrev pub missing_words : Missing → List ℕ
 missing_words Locks = codes "no locks in its file system"
 missing_words SynchronisedFolders = codes "no synchronised folders in its file system"
 missing_words Bytes = codes "its file is too short"
+missing_words Copy = codes "no copy of what it held could be made"
 
 -- a line: `unit: no locks in its file system`, or `unit: its file is too short`
 abbrev pub missing_line : Device → Missing → List ℕ

@@ -83,5 +83,6 @@ fn missing_words(missing: Missing) -> &'static [u8]
         Missing::Locks => b"no locks in its file system",
         Missing::SynchronisedFolders => b"no synchronised folders in its file system",
         Missing::Bytes => b"its file is too short",
+        Missing::Copy => b"no copy of what it held could be made",
     }
 }

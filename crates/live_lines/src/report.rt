@@ -2,14 +2,14 @@
 ghost use Rattle.std.specs.Prelude.{◌≡◌, ◌≤◌, ◌++◌, length, codes};
 ghost use Rattle.activity_codec.specs.Names.{slot_name};
 ghost use Rattle.run_model.specs.Names.{device_name};
+ghost use Rattle.failure_lines.specs.Refusals.{refusal_reason};
 ghost use Rattle.live_lines.specs.Texts.{IsReportText, IsBreakText, failed_words, verdict_words};
 
 use crate::minute_line::minute_line;
 use crate::timed_line::{MOST, timed_line};
 use activity_codec::Slot;
 use arrayvec::ArrayVec;
-use failure_lines::refusal_reason;
-use log_model::{Break, Find, Mark, Refused, Verdict};
+use log_model::{Break, Find, Mark, Refused, SlotFault, Verdict};
 use run_model::Device;
 
 /// What one line tells.
@@ -36,7 +36,7 @@ pub fn report_line(report: Report) -> ArrayVec<u8, MOST>
         Report::Refused(refused) => timed_line(
             b"refused",
             refused.second,
-            refusal_reason(refused.fault),
+            refusal_words(refused.fault),
         ),
         Report::Found(find) => timed_line(
             found_in(find.slot),
@@ -82,6 +82,24 @@ fn torn_from(slot: Slot) -> &'static [u8]
     match slot {
         Slot::Driver => b"torn driver",
         Slot::CoDriver => b"torn codriver",
+    }
+}
+
+/// Why an action was refused: the words of standard error.
+fn refusal_words(fault: SlotFault) -> &'static [u8]
+    ensures words { result.now ≡ refusal_reason fault }
+    ensures few { length result.now ≤ 28 }
+{
+    match fault {
+        SlotFault::Moving(_) => b"the vehicle moves",
+        SlotFault::Empty(_) => b"the slot is empty",
+        SlotFault::Occupied(_) => b"the slot is taken",
+        SlotFault::NoCard(_) => b"no accepted card in the slot",
+        SlotFault::Elsewhere(_) => b"the other slot has the card",
+        SlotFault::NoPower => b"there is no power",
+        SlotFault::Begun(_) => b"it comes too late",
+        SlotFault::NotFree(_, _) => b"the minute is not free",
+        SlotFault::Full(_) => b"eight are entered already",
     }
 }
 

@@ -6,11 +6,12 @@ ghost use Rattle.sector_medium.specs.Redo.{record_place};
 ghost use Rattle.tach_media.specs.Medium.{IsUntouched};
 
 use crate::Disk;
+use crate::copy::{CopyNames, keep_copy};
 use crate::record::{RECORD_SIZE, place_behind};
-use std::fs;
-use std::fs::{File, Files, OpenFile, OpenOptions, TryLockError};
+use std::fs::{File, Files, Metadata, OpenFile, OpenOptions, TryLockError};
 use std::io::ErrorKind;
 use std::os::unix::fs::{FileExt, FileTypeExt, MetadataExt};
+use std::{fs, io};
 use tach_media::{Counts, Failed};
 
 // What a file is asked for.
@@ -59,11 +60,20 @@ pub enum Missing {
     SynchronisedFolders,
     /// The file has some bytes, and fewer than its device.
     Bytes,
+    /// No copy could be made of what the file of a device held that is to be made anew.
+    Copy,
+}
+
+// Where a file is, and where the copy of what it held goes, if one is to be made.
+#[derive(Clone, Copy)]
+struct Place<'a> {
+    path: &'a str,
+    copy: Option<CopyNames<'a>>,
 }
 
 // Why a file is not reached.
 #[derive(Clone, Copy)]
-enum Unreached {
+pub(crate) enum Unreached {
     // It can be neither opened nor made, or somebody else has its lock.
     Refused,
     // It, or its file system, lacks this.
@@ -93,11 +103,12 @@ enum Backing {
 /// else every call fails. Every write stands on the disk before `Ok`, and so does the name of a file that was made.
 /// Each opening that writes waits for the name of a file that was there too, since whoever made it may have been
 /// stopped before; where its folder can't be synchronised it goes on. Where the file, or its file system, lacks what
-/// all this takes every call fails, and `missing` tells what. It tells nothing of its content.
+/// all this takes every call fails, and `missing` tells what. Of a device that is made anew a copy of what it held can
+/// be kept. It tells nothing of its content.
 #[derive(Drop)]
 pub struct FileDisk<'a, R: Files<File = File>> {
     files: &'a R,
-    path: &'a str,
+    place: Place<'a>,
     backing: Backing,
     access: Access,
     front: u32,
@@ -116,27 +127,40 @@ impl<'a, R: Files<File = File>> FileDisk<'a, R> {
         ensures room { HasRoom front (⟦<FileDisk<'a, R> as Disk>⟧.state result) }
         ensures missing { missing_in result.backing ≡ None }
     {
-        FileDisk::asking(files, path, front, Access::Lasting)
+        FileDisk::asking(files, Place { path, copy: None }, front, Access::Lasting)
     }
 
-    /// The same for a device that is made anew: a file that is too short is made whole first.
-    pub fn renewing(files: &'a R, path: &'a str, front: u32) -> FileDisk<'a, R>
+    /// The same for a device that is made anew: a file that is too short is made whole first. Where names of a copy are
+    /// given, what the file holds is copied before its first byte is changed, unless it has no byte; where that fails
+    /// every call does, and the file is as it was.
+    pub fn renewing(
+        files: &'a R,
+        path: &'a str,
+        copy: Option<CopyNames<'a>>,
+        front: u32,
+    ) -> FileDisk<'a, R>
         requires { front + 528 < 2 ^ 32 }
         ensures untouched { IsUntouched (record_place front + 16) (⟦<FileDisk<'a, R> as Disk>⟧.state result) }
         ensures room { HasRoom front (⟦<FileDisk<'a, R> as Disk>⟧.state result) }
         ensures missing { missing_in result.backing ≡ None }
     {
-        FileDisk::asking(files, path, front, Access::Renewing)
+        FileDisk::asking(files, Place { path, copy }, front, Access::Renewing)
     }
 
-    /// The same for what need not outlive a power cut, as a demonstration: no write waits for the disk.
-    pub fn without_waiting(files: &'a R, path: &'a str, front: u32) -> FileDisk<'a, R>
+    /// The same for what need not outlive a power cut, as a demonstration: no write waits for the disk, but for those of
+    /// the copy.
+    pub fn without_waiting(
+        files: &'a R,
+        path: &'a str,
+        copy: Option<CopyNames<'a>>,
+        front: u32,
+    ) -> FileDisk<'a, R>
         requires { front + 528 < 2 ^ 32 }
         ensures untouched { IsUntouched (record_place front + 16) (⟦<FileDisk<'a, R> as Disk>⟧.state result) }
         ensures room { HasRoom front (⟦<FileDisk<'a, R> as Disk>⟧.state result) }
         ensures missing { missing_in result.backing ≡ None }
     {
-        FileDisk::asking(files, path, front, Access::Passing)
+        FileDisk::asking(files, Place { path, copy }, front, Access::Passing)
     }
 
     /// The same for what only reads: the file may be one that can't be written, and others that only read may have it
@@ -147,12 +171,12 @@ impl<'a, R: Files<File = File>> FileDisk<'a, R> {
         ensures room { HasRoom front (⟦<FileDisk<'a, R> as Disk>⟧.state result) }
         ensures missing { missing_in result.backing ≡ None }
     {
-        FileDisk::asking(files, path, front, Access::Reading)
+        FileDisk::asking(files, Place { path, copy: None }, front, Access::Reading)
     }
 
     /// One that asks so for its file.
     #[tactic(auto, using(crate::specs::RedoLaws::record_near))]
-    fn asking(files: &'a R, path: &'a str, front: u32, access: Access) -> FileDisk<'a, R>
+    fn asking(files: &'a R, place: Place<'a>, front: u32, access: Access) -> FileDisk<'a, R>
         requires { front + 528 < 2 ^ 32 }
         ensures untouched { IsUntouched (record_place front + 16) (⟦<FileDisk<'a, R> as Disk>⟧.state result) }
         ensures room { HasRoom front (⟦<FileDisk<'a, R> as Disk>⟧.state result) }
@@ -160,7 +184,7 @@ impl<'a, R: Files<File = File>> FileDisk<'a, R> {
     {
         FileDisk {
             files,
-            path,
+            place,
             backing: Backing::Unopened,
             access,
             front,
@@ -179,6 +203,17 @@ impl<'a, R: Files<File = File>> FileDisk<'a, R> {
         match &self.backing {
             Backing::Lacking(missing) => Some(*missing),
             _ => None,
+        }
+    }
+
+    /// Whether the file was opened, and its path names another one now, or none: somebody has moved it, or put another
+    /// one in its place. What was written is in the one that was opened.
+    pub fn is_elsewhere(&self) -> bool {
+        match &self.backing {
+            Backing::Open(file) => {
+                !are_one(file.metadata(), fs::metadata(self.files, self.place.path))
+            }
+            _ => false,
         }
     }
 }
@@ -204,7 +239,7 @@ impl<'a, R: Files<File = File>> Disk for FileDisk<'a, R> {
     fn read_at(&mut self, place: u32, out: &mut [u8]) -> Result<(), Failed> {
         reach(
             self.files,
-            self.path,
+            self.place,
             self.front,
             self.access,
             &mut self.backing,
@@ -219,7 +254,7 @@ impl<'a, R: Files<File = File>> Disk for FileDisk<'a, R> {
     fn write_at(&mut self, place: u32, bytes: &[u8]) -> Result<(), Failed> {
         reach(
             self.files,
-            self.path,
+            self.place,
             self.front,
             self.access,
             &mut self.backing,
@@ -242,7 +277,7 @@ impl<'a, R: Files<File = File>> Disk for FileDisk<'a, R> {
     fn revive(&mut self) -> Result<(), Failed> {
         reach(
             self.files,
-            self.path,
+            self.place,
             self.front,
             self.access,
             &mut self.backing,
@@ -261,15 +296,15 @@ impl<'a, R: Files<File = File>> Disk for FileDisk<'a, R> {
 /// Opens the file, or makes it, at the first call.
 fn reach<R: Files<File = File>>(
     files: &R,
-    path: &str,
+    place: Place<'_>,
     size: u32,
     access: Access,
     backing: &mut Backing,
 ) {
     if let Backing::Unopened = backing {
         let opened = match access {
-            Access::Reading => shared(files, path, size),
-            _ => owned(files, path, size, access),
+            Access::Reading => shared(files, place, size),
+            _ => owned(files, place, size, access),
         };
         *backing = match opened {
             Ok(file) => Backing::Open(file),
@@ -282,26 +317,41 @@ fn reach<R: Files<File = File>>(
 /// The file that nobody else has, to be read and written.
 fn owned<R: Files<File = File>>(
     files: &R,
-    path: &str,
+    place: Place<'_>,
     size: u32,
     access: Access,
 ) -> Result<File, Unreached> {
     let mut options = OpenOptions::new();
     options.read(true).write(true);
-    match options.open(files, path) {
+    match options.open(files, place.path) {
         Ok(file) => {
             let file = locked(file)?;
             if ends_before(&file, 1) {
-                refilled(files, path, &file, size)?;
+                refilled(files, place.path, &file, size)?;
             } else {
+                kept(files, &file, place.copy)?;
                 whole(&file, size, access)?;
                 // whoever made it may have been stopped before this
-                let _ = named(files, path);
+                let _ = named(files, place.path);
             }
             Ok(file)
         }
-        Err(error) if error.kind() == ErrorKind::NotFound => made(files, path, size),
+        Err(error) if error.kind() == ErrorKind::NotFound => made(files, place.path, size),
         Err(_) => Err(Unreached::Refused),
+    }
+}
+
+/// Copies what a file holds, where a copy is to be made.
+fn kept<R: Files<File = File>>(
+    files: &R,
+    file: &File,
+    copy: Option<CopyNames<'_>>,
+) -> Result<(), Unreached> {
+    match copy {
+        Some(copy) if keep_copy(files, file, copy).is_err() => {
+            Err(Unreached::Lacking(Missing::Copy))
+        }
+        _ => Ok(()),
     }
 }
 
@@ -319,11 +369,15 @@ fn whole(file: &File, size: u32, access: Access) -> Result<(), Unreached> {
 }
 
 /// The file that only others who read it have, to be read. One that is to be made is made first.
-fn shared<R: Files<File = File>>(files: &R, path: &str, size: u32) -> Result<File, Unreached> {
-    if is_pipe(files, path) {
+fn shared<R: Files<File = File>>(
+    files: &R,
+    place: Place<'_>,
+    size: u32,
+) -> Result<File, Unreached> {
+    if is_pipe(files, place.path) {
         return Err(Unreached::Refused);
     }
-    match File::open(files, path) {
+    match File::open(files, place.path) {
         Ok(file) => {
             let file = lent(file)?;
             if !ends_before(&file, 1) {
@@ -334,7 +388,7 @@ fn shared<R: Files<File = File>>(files: &R, path: &str, size: u32) -> Result<Fil
         Err(error) if error.kind() == ErrorKind::NotFound => {}
         Err(_) => return Err(Unreached::Refused),
     }
-    lent(owned(files, path, size, Access::Reading)?)
+    lent(owned(files, place, size, Access::Reading)?)
 }
 
 /// A file that nobody else has locked.
@@ -433,6 +487,14 @@ fn filled<R: Files<File = File>>(
     }
 }
 
+/// Whether two files are one.
+fn are_one(one: io::Result<Metadata>, other: io::Result<Metadata>) -> bool {
+    match (one, other) {
+        (Ok(one), Ok(other)) => one.dev() == other.dev() && one.ino() == other.ino(),
+        _ => false,
+    }
+}
+
 /// Whether a file has a name.
 fn has_name(file: &File) -> bool {
     match file.metadata() {
@@ -442,7 +504,7 @@ fn has_name(file: &File) -> bool {
 }
 
 /// Waits until the name of a file stands in its folder.
-fn named<R: Files<File = File>>(files: &R, path: &str) -> Result<(), Unreached> {
+pub(crate) fn named<R: Files<File = File>>(files: &R, path: &str) -> Result<(), Unreached> {
     let folder = match path.rsplit_once('/') {
         None => ".",
         Some((folder, _name)) if folder.is_empty() => "/",

@@ -1,6 +1,7 @@
 //! A memory that a stop leaves whole, write by write, over a disk that keeps only its sectors whole.
 #![tactic(auto)]
 
+mod copy;
 mod disk;
 mod file;
 mod found;
@@ -10,6 +11,7 @@ mod record;
 mod redo_medium;
 mod steps;
 
+pub use copy::CopyNames;
 pub use disk::Disk;
 pub use file::{FileDisk, Missing};
 use found::{Found, Redo};

@@ -34,3 +34,4 @@ pub mod PacketServices
 pub mod CardServices
 pub mod CardEnds
 pub mod Demo
+pub mod HintWords

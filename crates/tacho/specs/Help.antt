@@ -12,7 +12,7 @@ abbrev pub as_lines : List (List ℕ) → List ℕ
 as_lines [] = []
 as_lines (line ∷ lines) = line ++ 10 ∷ as_lines lines
 
--- the forms, a line each, and one example
+-- the forms, a line each, how a file is named, and one example
 unfoldable pub help_text : List ℕ
 help_text = as_lines (
     codes "tacho minutes < TRACE                    print the minutes of a trace, with no card" ∷
@@ -39,18 +39,19 @@ help_text = as_lines (
     codes "tacho show last N < FILE                 print it with only its last N days" ∷
     codes "tacho match < FILES                      say whether a card's file, put after a unit's, stands in it" ∷
     codes "tacho match all < FILES                  print each difference, and the counts" ∷
-    codes "tacho format unit N PLATE VIN LIMIT      make a new unit in unit.img: what it held is lost" ∷
-    codes "tacho format a|b N NUMBER SURNAME FIRST  make a new card in card-a.img or card-b.img: what it held is lost" ∷
+    codes "tacho format unit N PLATE VIN LIMIT      make a new unit in unit.img: what it held goes to unit.img.before" ∷
+    codes "tacho format a|b N NUMBER SURNAME FIRST  make a new card in card-a.img or card-b.img: what it held goes the same way" ∷
     codes "tacho upgrade                            give the unit the amended rule of minutes, for good" ∷
     codes "tacho state                              print what the unit and the cards tell of themselves" ∷
-    codes "tacho demo X                             record forty days drawn from X: what unit and card a held is lost" ∷
+    codes "tacho demo X                             record forty days drawn from X: what unit and card a held goes the same way" ∷
     codes "tacho help, tacho --help                 print these lines" ∷
-    codes "tacho --version                          print the version, and that of the toolchain" ∷
+    codes "tacho --version                          print the version, and the logic of the toolchain" ∷
+    codes "A name of a file with . or / in it may stand in place of < and the file: tacho view unit.ddd" ∷
     codes "Example: (echo start 1267401600; echo run 3600 50) | tacho minutes" ∷ [])
 
--- the version, and that of the toolchain which proves it
+-- the version, and the logic of the toolchain which proves it
 unfoldable pub version_text : List ℕ
-version_text = as_lines (codes "tacho 1.7.0" ∷ codes "rattle-kit-13f logic dac8208d650f15bf" ∷ [])
+version_text = as_lines (codes "tacho 2.0.0" ∷ codes "logic dac8208d650f15bf" ∷ [])
 
 -- all is done, or the sink failed
 abbrev pub IsTextEnd : Fault → Type 0

@@ -30,3 +30,6 @@ pub mod CardFile
 pub mod Demo
 pub mod Help
 pub mod Program
+pub mod Sources
+pub mod Hints
+pub mod Ending

@@ -88,7 +88,7 @@ pub enum Form {
     Demo { seed: u32 },
     /// `help` and `--help`: the forms are printed, a line each.
     Help,
-    /// `--version`: the version is printed, and that of the toolchain.
+    /// `--version`: the version is printed, and the logic of the toolchain.
     Version,
 }
 
@@ -131,7 +131,7 @@ pub fn form_of(words: &Words) -> Option<Form>
 }
 
 /// The form of one word. `--help` and `--version` are the only such that begin with `-`.
-fn form_of_one(word: &str) -> Option<Form>
+pub(crate) fn form_of_one(word: &str) -> Option<Form>
     ensures { result ≡ form_of_one word.now }
 {
     if is_text(word, "minutes") {
@@ -190,7 +190,7 @@ fn reading_of(word: &str) -> Option<Reading>
 }
 
 /// The form of two words. The second may begin with `-`.
-fn form_of_two(command: &str, option: &str) -> Option<Form>
+pub(crate) fn form_of_two(command: &str, option: &str) -> Option<Form>
     ensures { result ≡ form_of_two command.now option.now }
 {
     if is_text(command, "minutes") && is_text(option, "2009") {
@@ -368,7 +368,7 @@ fn format_of(what: &str, first: &str, second: &str, third: &str, fourth: &str) -
 }
 
 /// Whether a word is this text.
-fn is_text(word: &str, text: &str) -> bool
+pub(crate) fn is_text(word: &str, text: &str) -> bool
     ensures { result ≡ bytes_eq word.now text.now }
 {
     word == text
@@ -443,7 +443,7 @@ fn vehicle_number(word: &str) -> Option<[u8; VIN]>
 }
 
 /// The number in this range that a word spells, without a sign or a leading zero.
-fn number(word: &str, least: u32, most: u32) -> Option<u32>
+pub(crate) fn number(word: &str, least: u32, most: u32) -> Option<u32>
     ensures value { result ≡ number_in least most word.now }
     ensures most { IfSome result (λ n. n ≤ most) }
 {
@@ -484,7 +484,7 @@ fn name(word: &str) -> Option<Name36>
 }
 
 /// Whether a word has so many characters, each from 21 to 7E and the first no `-`.
-fn is_word(text: &[u8], least: usize, most: usize) -> bool
+pub(crate) fn is_word(text: &[u8], least: usize, most: usize) -> bool
     ensures { result ≡ is_word least most text.now }
 {
     least <= text.len() && text.len() <= most && !begins_with_dash(text) && has_characters(text)

@@ -7,7 +7,7 @@ use crate::end::Fault;
 use crate::printing::print_text;
 use tach_media::Sink;
 
-/// What `help` prints: the forms, a line each, and one example.
+/// What `help` prints: the forms, a line each, how a file is named, and one example.
 const HELP: &[u8] = b"\
 tacho minutes < TRACE                    print the minutes of a trace, with no card
 tacho minutes 2009 < TRACE               print them by the rule as amended in 2009
@@ -33,19 +33,20 @@ tacho show < FILE                        print all that stands in a unit's or a 
 tacho show last N < FILE                 print it with only its last N days
 tacho match < FILES                      say whether a card's file, put after a unit's, stands in it
 tacho match all < FILES                  print each difference, and the counts
-tacho format unit N PLATE VIN LIMIT      make a new unit in unit.img: what it held is lost
-tacho format a|b N NUMBER SURNAME FIRST  make a new card in card-a.img or card-b.img: what it held is lost
+tacho format unit N PLATE VIN LIMIT      make a new unit in unit.img: what it held goes to unit.img.before
+tacho format a|b N NUMBER SURNAME FIRST  make a new card in card-a.img or card-b.img: what it held goes the same way
 tacho upgrade                            give the unit the amended rule of minutes, for good
 tacho state                              print what the unit and the cards tell of themselves
-tacho demo X                             record forty days drawn from X: what unit and card a held is lost
+tacho demo X                             record forty days drawn from X: what unit and card a held goes the same way
 tacho help, tacho --help                 print these lines
-tacho --version                          print the version, and that of the toolchain
+tacho --version                          print the version, and the logic of the toolchain
+A name of a file with . or / in it may stand in place of < and the file: tacho view unit.ddd
 Example: (echo start 1267401600; echo run 3600 50) | tacho minutes
 ";
 
-/// What `--version` prints: the version, and that of the toolchain which proves it.
-const VERSION: &[u8] = b"tacho 1.7.0
-rattle-kit-13f logic dac8208d650f15bf
+/// What `--version` prints: the version, and the logic of the toolchain which proves it.
+const VERSION: &[u8] = b"tacho 2.0.0
+logic dac8208d650f15bf
 ";
 
 /// The form `help`.

@@ -1,12 +1,13 @@
-//! The program: it hands its words and its streams to the top call, and ends with its status. On standard error it
-//! prints what a device's file lacks, a line for each action of a run that was refused, for each card that was
-//! turned away and for each call that failed, and the fault's line.
+//! The program: it hands its words, its streams and the devices' files to the top call, and ends with its status. On
+//! standard error it prints what a device's file lacks, a line for each action of a run that was refused, for each card
+//! that was turned away, for each call that failed and for each device whose file was taken away, and the fault's line.
 #![tactic(auto)]
 
-ghost use Rattle.std.specs.Prelude.{◌<◌, ◌+◌, ◌^◌};
+ghost use Rattle.std.specs.Prelude.{◌≡◌, ◌<◌, ◌+◌, ◌^◌};
 ghost use Rattle.sector_medium.specs.Recovered.{HasRoom};
 ghost use Rattle.sector_medium.specs.Redo.{record_place};
 ghost use Rattle.tach_media.specs.Medium.{IsUntouched};
+ghost use Rattle.tacho.specs.Ending.{program_status};
 
 mod alone;
 mod anew;
@@ -18,6 +19,8 @@ mod end;
 mod format_command;
 mod forms;
 mod help_command;
+mod hints;
+mod images;
 mod match_command;
 mod minutes;
 mod minutes_command;
@@ -30,7 +33,9 @@ mod report_command;
 mod serve_command;
 mod show_command;
 mod slot_command;
+mod sources;
 mod state_command;
+mod telling;
 mod top;
 mod upgrade_command;
 mod view_command;
@@ -39,24 +44,26 @@ mod words;
 use card_commands::SimCard;
 use card_layout::LARGEST_IMAGE;
 use end::{Ended, Fault};
-use failure_lines::{put_failures, put_missing, put_refusals, put_turned_away};
+use failure_lines::put_missing;
 use forms::{Form, form_of};
+use images::{CARD_A, CARD_B, Image, NO_FILE, UNIT, copies_of, download_name};
+use outside_files::words_before_names;
 use packet_service::FileSink;
 use run_model::Device;
 use sector_medium::{Disk, FileDisk, RedoMedium};
+use sources::{Input, NamedFiles, takes_names};
 use std::fs::File;
 use std::io::ErrorKind;
 use std::process::ExitCode;
-use std::{env, fs, io, str};
-use tach_media::{Medium, StdSink, StdSource};
-use tacho_types::{FullCardNumber, write_card_number};
+use std::{env, fs};
+use tach_media::{Medium, Memory, StdSink};
+use telling::{tell_copies, tell_elsewhere, tell_end, tell_run, tell_waiting};
 use top::tacho;
 use unit_model::layout::IMAGE_SIZE;
 use words::Words;
 
 /// The words behind the program's name. One that is no text is in no form.
-fn words_of(rt: &HostRuntime) -> Result<Words, Fault> {
-    let mut words = Words::new(rt.alloc());
+fn given_words(rt: &HostRuntime) -> Result<Vec<String>, Fault> {
     let given = match env::args(rt) {
         Ok(given) => given,
         Err(error) => {
@@ -66,12 +73,55 @@ fn words_of(rt: &HostRuntime) -> Result<Words, Fault> {
             });
         }
     };
+    let mut words = Vec::new(rt.alloc());
     for (i, word) in given.enumerate() {
-        if i > 0 && words.push(word.as_str()).is_err() {
+        if i > 0 && words.push(word).is_err() {
             return Err(Fault::Memory);
         }
     }
     Ok(words)
+}
+
+/// The words of a list.
+fn words_of(rt: &HostRuntime, list: &[String]) -> Result<Words, Memory> {
+    let mut words = Words::new(rt.alloc());
+    for word in list {
+        words.push(word.as_str())?;
+    }
+    Ok(words)
+}
+
+/// The status where a device's file was taken away, and all else is done.
+const TAKEN_AWAY: u8 = 15;
+
+/// What the words ask for, and the files that they name.
+#[derive(Drop)]
+struct Asked {
+    words: Words,
+    names: Vec<String>,
+}
+
+/// What is asked for. The last words are names of files where those before them are a form that takes such.
+fn read_words(rt: &HostRuntime) -> Result<Asked, Fault> {
+    let given = given_words(rt)?;
+    let (front, names) = given.split_at(words_before_names(given.as_slice()));
+    let words = words_of(rt, front)?;
+    if names.is_empty() || !takes_names(&words) {
+        let words = words_of(rt, given.as_slice())?;
+        let names = Vec::new(rt.alloc());
+        return Ok(Asked { words, names });
+    }
+    let mut named = Vec::new(rt.alloc());
+    for name in names {
+        let name = String::from_str(rt.alloc(), name.as_str())?;
+        if named.push(name).is_err() {
+            return Err(Fault::Memory);
+        }
+    }
+    Ok(Asked {
+        words,
+        names: named,
+    })
 }
 
 /// What a form does with the files of the devices.
@@ -79,9 +129,9 @@ fn words_of(rt: &HostRuntime) -> Result<Words, Fault> {
 enum Access {
     /// It writes them, and each write waits for the disk.
     Lasting,
-    /// It makes a device anew: also one whose file is too short.
+    /// It makes a device anew, also one whose file is too short, and keeps a copy of what it held.
     Renewing,
-    /// It writes them as a demonstration, which need not outlive a power cut.
+    /// The same as a demonstration, which need not outlive a power cut.
     Passing,
     /// It reads them: also such as can't be written, and beside other forms that read.
     Reading,
@@ -89,10 +139,23 @@ enum Access {
     Looking,
 }
 
-/// What the form of the words does with the files.
-fn access_of(words: &Words) -> Access {
+impl Access {
+    /// Whether it writes them.
+    fn writes(self) -> bool {
+        match self {
+            Access::Lasting | Access::Renewing | Access::Passing => true,
+            Access::Reading | Access::Looking => false,
+        }
+    }
+}
+
+/// What the form of the words does with the file of a device. A demonstration makes no second card anew.
+fn access_of(words: &Words, device: Device) -> Access {
     match form_of(words) {
-        Some(Form::Demo { .. }) => Access::Passing,
+        Some(Form::Demo { .. }) => match device {
+            Device::CardB => Access::Lasting,
+            _ => Access::Passing,
+        },
         Some(Form::FormatCard { .. } | Form::FormatUnit { .. }) => Access::Renewing,
         Some(
             Form::Serve
@@ -110,7 +173,7 @@ fn access_of(words: &Words) -> Access {
 /// The file of a device in the working folder, as a disk.
 fn disk<'a>(
     rt: &'a HostRuntime,
-    path: &'a str,
+    image: Image,
     size: u32,
     access: Access,
 ) -> FileDisk<'a, HostRuntime>
@@ -119,11 +182,11 @@ fn disk<'a>(
     ensures room { HasRoom size (⟦<FileDisk<'a, HostRuntime> as Disk>⟧.state result) }
 {
     match access {
-        Access::Lasting => FileDisk::new(rt, path, size),
-        Access::Renewing => FileDisk::renewing(rt, path, size),
-        Access::Passing => FileDisk::without_waiting(rt, path, size),
-        Access::Reading => FileDisk::for_reading(rt, path, size),
-        Access::Looking => FileDisk::for_reading(rt, path_there(rt, path), size),
+        Access::Lasting => FileDisk::new(rt, image.path, size),
+        Access::Renewing => FileDisk::renewing(rt, image.path, Some(image.copy), size),
+        Access::Passing => FileDisk::without_waiting(rt, image.path, Some(image.copy), size),
+        Access::Reading => FileDisk::for_reading(rt, image.path, size),
+        Access::Looking => FileDisk::for_reading(rt, path_there(rt, image.path), size),
     }
 }
 
@@ -131,102 +194,104 @@ fn disk<'a>(
 /// most four bytes.
 fn file<'a>(
     rt: &'a HostRuntime,
-    path: &'a str,
+    image: Image,
     size: u32,
     access: Access,
 ) -> RedoMedium<FileDisk<'a, HostRuntime>>
     requires { size + 528 < 2 ^ 32 }
     ensures { IsUntouched size (⟦<RedoMedium<FileDisk<'a, HostRuntime>> as Medium>⟧.state result) }
 {
-    RedoMedium::new(disk(rt, path, size, access), size)
+    RedoMedium::new(disk(rt, image, size, access), size)
 }
 
 /// The path of a file that is there and has bytes; of any other one that no file has, so that none is made.
 fn path_there<'a>(rt: &HostRuntime, path: &'a str) -> &'a str {
     match fs::metadata(rt, path) {
         Ok(metadata) if metadata.len() > 0 => path,
-        _ => "",
+        _ => NO_FILE,
     }
 }
 
-/// The top call over the program's streams, and over the unit and the cards in the working folder's files. A stream
-/// that is closed has left its number free: a folder takes it, which can be neither read nor written, so that no
-/// device's file gets it, over which then would be written what is printed. Where a device's file is too short, or its
-/// file system lacks what it takes, one line on standard error says so.
-fn run(rt: &HostRuntime) -> Ended {
+/// The top call over the input and the program's streams, and over the unit and the cards in the working folder's files;
+/// and the lines of what was not as it should be. The status is that of the call, or 15 where that is 0 and the file of a
+/// device that it writes was taken away meanwhile.
+fn perform(rt: &HostRuntime, words: &Words, input: &mut Input<'_, HostRuntime>) -> u8 {
+    let before = copies_of(rt);
+    let mut unit = file(rt, UNIT, IMAGE_SIZE, access_of(words, Device::Unit));
+    let mut card_a = SimCard::new(file(rt, CARD_A, LARGEST_IMAGE, access_of(words, Device::CardA)));
+    let mut card_b = SimCard::new(file(rt, CARD_B, LARGEST_IMAGE, access_of(words, Device::CardB)));
+    let ended = tacho(
+        rt.alloc(),
+        words,
+        input,
+        &mut StdSink::new(rt.stdout()),
+        &mut FileSink::new(rt, download_name(rt)),
+        &mut unit,
+        &mut card_a,
+        &mut card_b,
+    );
+    let _ = put_missing(
+        &mut StdSink::new(rt.stderr()),
+        unit.disk().missing(),
+        card_a.medium().disk().missing(),
+        card_b.medium().disk().missing(),
+    );
+    tell_run(rt, &ended);
+    let writes = access_of(words, Device::CardB).writes();
+    let unit_moved = writes && unit.disk().is_elsewhere();
+    let card_a_moved = writes && card_a.medium().disk().is_elsewhere();
+    let card_b_moved = writes && card_b.medium().disk().is_elsewhere();
+    tell_elsewhere(rt, UNIT, unit_moved);
+    tell_elsewhere(rt, CARD_A, card_a_moved);
+    tell_elsewhere(rt, CARD_B, card_b_moved);
+    tell_copies(rt, &before);
+    tell_end(rt, words, ended.fault, Some(input.named()));
+    program_status(ended.status, unit_moved || card_a_moved || card_b_moved)
+}
+
+/// The program's status, by that of the call, and by whether the file of a device was taken away.
+fn program_status(status: u8, taken_away: bool) -> u8
+    ensures { result ≡ program_status status taken_away }
+{
+    if status == 0 && taken_away {
+        TAKEN_AWAY
+    } else {
+        status
+    }
+}
+
+/// The end by a fault before the top call.
+fn end_early(rt: &HostRuntime, words: &Words, fault: Fault) -> u8 {
+    let ended = Ended::by_fault(rt.alloc(), fault);
+    tell_end(rt, words, fault, None);
+    ended.status
+}
+
+/// Does what is asked for, once there is a line of what it waits for.
+fn answer(rt: &HostRuntime, asked: Asked) -> u8 {
+    let Asked { words, names } = asked;
+    if names.is_empty() {
+        tell_waiting(rt, &words);
+    }
+    match NamedFiles::new(rt, rt.alloc(), names) {
+        Ok(named) => perform(rt, &words, &mut Input::new(rt.stdin(), named)),
+        Err(_) => end_early(rt, &words, Fault::Memory),
+    }
+}
+
+/// Runs the program. A stream that is closed has left its number free: a folder takes it, which can be neither read nor
+/// written, so that no other file gets it, over which then would be written what is printed.
+fn run(rt: &HostRuntime) -> u8 {
     let _first = File::open(rt, "/");
     let _second = File::open(rt, "/");
     let _third = File::open(rt, "/");
-    match words_of(rt) {
-        Ok(words) => {
-            let access = access_of(&words);
-            let mut unit = file(rt, "unit.img", IMAGE_SIZE, access);
-            let mut card_a = SimCard::new(file(rt, "card-a.img", LARGEST_IMAGE, access));
-            let mut card_b = SimCard::new(file(rt, "card-b.img", LARGEST_IMAGE, access));
-            let ended = tacho(
-                rt.alloc(),
-                &words,
-                &mut StdSource::new(rt.stdin()),
-                &mut StdSink::new(rt.stdout()),
-                &mut FileSink::new(rt, "unit.ddd"),
-                &mut unit,
-                &mut card_a,
-                &mut card_b,
-            );
-            let _ = put_missing(
-                &mut StdSink::new(rt.stderr()),
-                unit.disk().missing(),
-                card_a.medium().disk().missing(),
-                card_b.medium().disk().missing(),
-            );
-            ended
-        }
-        Err(fault) => Ended::by_fault(rt.alloc(), fault),
+    match read_words(rt) {
+        Ok(asked) => answer(rt, asked),
+        Err(fault) => end_early(rt, &Words::new(rt.alloc()), fault),
     }
 }
 
-/// The line of two cards of one number, which is told in 36 hexadecimal digits.
-fn tell_same_card(rt: &HostRuntime, number: &FullCardNumber) -> io::Result<()> {
-    let mut bytes = [0; FullCardNumber::SIZE];
-    write_card_number(number, &mut bytes);
-    let mut digits = [0; 2 * FullCardNumber::SIZE];
-    let _ = hex::encode_to_slice(&bytes, &mut digits);
-    match str::from_utf8(&digits) {
-        Ok(text) => eprintln!(rt; "same card {text}"),
-        Err(_) => Ok(()),
-    }
-}
-
-/// The fault's line on standard error.
-fn tell(rt: &HostRuntime, fault: Fault) -> io::Result<()> {
-    match fault {
-        Fault::Done => Ok(()),
-        Fault::Usage => eprintln!(rt; "usage"),
-        Fault::BadTrace(n) => eprintln!(rt; "bad line {n}"),
-        Fault::TooLong(n) => eprintln!(rt; "too long at line {n}"),
-        Fault::BadUnit(place) => eprintln!(rt; "bad unit at {place}"),
-        Fault::ClockBack(kept, second) => eprintln!(rt; "clock back, kept {kept}, start {second}"),
-        Fault::SameCard(number) => tell_same_card(rt, &number),
-        Fault::ReadFault => eprintln!(rt; "read fault"),
-        Fault::WriteFault => eprintln!(rt; "write fault"),
-        Fault::MediumFault(Device::Unit) => eprintln!(rt; "medium fault unit"),
-        Fault::MediumFault(Device::CardA) => eprintln!(rt; "medium fault card-a"),
-        Fault::MediumFault(Device::CardB) => eprintln!(rt; "medium fault card-b"),
-        Fault::Memory => eprintln!(rt; "out of memory"),
-        Fault::BadFile(place) => eprintln!(rt; "bad file at {place}"),
-        Fault::BadCard(field) => eprintln!(rt; "bad card field {field}"),
-        Fault::Changed => eprintln!(rt; "unit changed"),
-        Fault::FileFault => eprintln!(rt; "write fault unit.ddd"),
-        Fault::LinkEnded => eprintln!(rt; "link ended"),
-    }
-}
-
-/// Runs the program, and prints the lines of what was refused, turned away or failed.
+/// Runs the program, and ends with its status.
 fn main(rt: HostRuntime) -> ExitCode {
-    let ended = run(&rt);
-    let _ = put_refusals(&mut StdSink::new(rt.stderr()), &ended.outcome.refused);
-    let _ = put_turned_away(&mut StdSink::new(rt.stderr()), &ended.outcome.finds);
-    let _ = put_failures(&mut StdSink::new(rt.stderr()), &ended.outcome.breaks);
-    let _ = tell(&rt, ended.fault);
-    ExitCode::from(ended.status)
+    ExitCode::from(run(&rt))
 }

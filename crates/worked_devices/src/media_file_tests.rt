@@ -1,4 +1,4 @@
-use sector_medium::{FileDisk, Missing, RedoMedium};
+use sector_medium::{CopyNames, FileDisk, Missing, RedoMedium};
 use std::fs;
 use std::fs::File;
 use std::os::fd::AsRawFd;
@@ -157,20 +157,39 @@ fn a_file_that_is_too_short(rt: HostRuntime) {
     assert!(rt; remove(&rt, "tach_media_short"));
 }
 
-/// Where the device is made anew such a file is made whole.
+/// Where the device is made anew such a file is made whole, and what it held is copied first, where that is asked for.
+/// Whether the file was taken away is told.
 #[test]
 fn a_short_file_of_a_new_device(rt: HostRuntime) {
     assert!(rt; put_file(&rt, "tach_media_renewed", b"01234567"));
     {
-        let mut medium = RedoMedium::new(FileDisk::renewing(&rt, "tach_media_renewed", 16), 16);
+        let mut medium = RedoMedium::new(
+            FileDisk::renewing(&rt, "tach_media_renewed", None, 16),
+            16,
+        );
         reads(&rt, &mut medium, 6, b"67\0\0");
         assert!(rt; is_long(&rt, "tach_media_renewed", 16));
         assert_eq!(rt; medium.disk().missing(), None);
     }
-    let mut shown = RedoMedium::new(FileDisk::without_waiting(&rt, "tach_media_renewed", 32), 32);
+    let names = CopyNames {
+        path: "tach_media_renewed.before",
+        unfinished: "tach_media_renewed.part",
+    };
+    let disk = FileDisk::without_waiting(&rt, "tach_media_renewed", Some(names), 32);
+    let mut shown = RedoMedium::new(disk, 32);
     reads(&rt, &mut shown, 28, &[0; 4]);
     assert!(rt; is_long(&rt, "tach_media_renewed", 32));
+    assert!(rt;
+        holds(
+            &rt,
+            "tach_media_renewed.before",
+            b"01234567\0\0\0\0\0\0\0\0"
+        )
+    );
+    assert!(rt; !shown.disk().is_elsewhere());
     assert!(rt; remove(&rt, "tach_media_renewed"));
+    assert!(rt; shown.disk().is_elsewhere());
+    assert!(rt; remove(&rt, "tach_media_renewed.before"));
 }
 
 /// While a medium has its file, another of that file does not work.
@@ -329,7 +348,7 @@ fn a_file_that_was_there(rt: HostRuntime) -> Result<(), Fail> {
 fn a_write_that_cannot_be_synchronised(rt: HostRuntime) {
     {
         let mut shown = RedoMedium::new(
-            FileDisk::without_waiting(&rt, "/proc/self/coredump_filter", 8),
+            FileDisk::without_waiting(&rt, "/proc/self/coredump_filter", None, 8),
             8,
         );
         writes(&rt, &mut shown, 0, b"0x33");
