@@ -18,7 +18,7 @@ use std::rt::HostRuntime;
 use std::test::Fail;
 use tach_media::Medium;
 use unit_model::layout::IMAGE_SIZE;
-use worked_media::{NO_ROOM, NUMBER_A, SMALLEST, card_image, card_of_zeros, new_image};
+use worked_media::{NUMBER_A, SMALLEST, card_image, new_image};
 
 /// The limit of the vehicle, in km/h.
 const LIMIT: u8 = 90;
@@ -56,7 +56,8 @@ struct Image {
     again: Vec<u8>,
 }
 
-/// A recording on devices, and the second of the one behind it.
+/// A recording on devices, and the one behind it.
+#[derive(Clone, Copy)]
 struct Row<'a> {
     base: &'a Disks,
     text: &'a [u8],
@@ -132,7 +133,8 @@ impl Disks {
     fn record(self, alloc: Global, text: &[u8]) -> Result<Done, Fail> {
         let mut unit = unit_over(self.unit)?;
         let mut card = SimCard::new(card_over(self.card)?);
-        let mut other = card_of_zeros(alloc, NO_ROOM)?;
+        let zeros = vec![in alloc; 0u8; LARGEST_IMAGE as usize]?;
+        let mut other = SimCard::new(card_over(disk_of(alloc, zeros.as_slice())?)?);
         let recorded = record(alloc, text, &mut unit, &mut card, &mut other)?;
         let ran = Ran::of(&recorded);
         let (unit, card) = (unit.disk(), card.medium().disk());
