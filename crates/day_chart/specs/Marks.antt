@@ -1,5 +1,5 @@
 -- The marks of the picture: places that were entered, events, faults and entries by hand (profile).
-use Rattle.std.specs.Prelude.{ℕ, ◌+◌, ◌/◌, ◌%◌, ◌==◌, if◌then◌else◌, List, [], ◌∷◌, ◌++◌, codes, decimal}
+use Rattle.std.specs.Prelude.{◌≡◌, ℕ, ◌+◌, ◌/◌, ◌%◌, ◌==◌, if◌then◌else◌, List, [], ◌∷◌, ◌++◌, codes, decimal, filter}
 use Rattle.activity_codec.specs.declared.day.TheConstants.{DAY_MINUTES, DAY_SECONDS, MINUTE_SECONDS}
 use Rattle.activity_codec.specs.Names.{activity_name}
 use Rattle.calendar_days.specs.Clock.{clock_text}
@@ -56,3 +56,15 @@ day_mark_text date day mark = if mark.second / DAY_SECONDS == day then mark_text
 abbrev pub marks_text : (date : List ℕ) → (day : ℕ) → List Mark → List ℕ
 marks_text date day [] = []
 marks_text date day (mark ∷ marks) = day_mark_text date day mark ++ marks_text date day marks
+
+-- the day of a mark
+abbrev pub mark_day : Mark → ℕ
+mark_day mark = mark.second / DAY_SECONDS
+
+-- those that lie on this day
+abbrev pub marks_of_day : (day : ℕ) → List Mark → List Mark
+marks_of_day day marks = filter (λ mark. mark_day mark == day) marks
+
+-- the same lie on each day, in the same order
+abbrev pub AreSameMarks : List Mark → List Mark → Type 0
+AreSameMarks marks other = (day : ℕ) → marks_of_day day marks ≡ marks_of_day day other

@@ -1,18 +1,20 @@
 //! The picture of the days of a unit, and of a card.
 ghost use Rattle.std.specs.Prelude.{◌≡◌, ◌++◌, IfOk, OnOk, ℕ, List, length};
+ghost use Rattle.std.specs.List.Sorted.{IsNonDecreasingBy};
 ghost use Rattle.calendar_days.specs.Calendar.{IsDateText};
 ghost use Rattle.view_model.specs.Lines.{same_unit, same_card};
 ghost use Rattle.file_view.specs.Histories.{AreLines, minutes_on};
 ghost use Rattle.slot_bars.specs.DayLines.{AreDayLines, IsOneDay};
 ghost use Rattle.slot_bars.specs.DaysOf.{day_of, days_of};
+ghost use Rattle.day_chart.specs.Marks.{mark_day};
 ghost use Rattle.day_chart.specs.Chart.{IsUnitChart, IsCardChart, unit_band, card_band};
 
 use crate::band::{write_band_head, write_lane};
 use crate::frame::{CARD_BAND, FIRST_BAND, FRAME_HEIGHT, UNIT_BAND, frame_head};
-use crate::mark::write_marks;
+use crate::mark::{by_day, marks_on, write_marks};
 use activity_codec::Slot;
 use calendar_days::day_text;
-use slot_bars::{card_bars, day_number, first_day, unit_bars};
+use slot_bars::{Gaps, card_bars, day_number, first_day, unit_bars};
 use std::alloc::{AllocError, Global};
 use view_model::{CardShown, Gap, Line, Mark, UnitShown};
 
@@ -31,13 +33,15 @@ pub fn unit_chart(
     requires { AreLines same_unit lines.now }
     ensures { IfOk result (λ text. IsUnitChart gaps.now marks.now totals.now (minutes_on lines.now) text.items) }
 {
+    let in_order = Gaps::of(alloc, gaps)?;
+    let told = by_day(alloc, marks)?;
     let count = days_in(lines);
     let mut text = frame_head(alloc, FRAME_HEIGHT + UNIT_BAND * count as u128, totals)?;
     let mut place = 0u64;
     let mut rest = lines;
     'days: while rest.len() > 0 {
         let (day, behind) = rest.split_at(first_day(rest));
-        write_unit_band(alloc, &mut text, day, gaps, marks, place)?;
+        write_unit_band(alloc, &mut text, day, &in_order, told.as_slice(), place)?;
         place += 1;
         rest = behind;
     }
@@ -59,13 +63,14 @@ pub fn card_chart(
     requires { AreLines same_card lines.now }
     ensures { IfOk result (λ text. IsCardChart marks.now totals.now (minutes_on lines.now) text.items) }
 {
+    let told = by_day(alloc, marks)?;
     let count = days_in(lines);
     let mut text = frame_head(alloc, FRAME_HEIGHT + CARD_BAND * count as u128, totals)?;
     let mut place = 0u64;
     let mut rest = lines;
     'days: while rest.len() > 0 {
         let (day, behind) = rest.split_at(first_day(rest));
-        write_card_band(alloc, &mut text, day, marks, place)?;
+        write_card_band(alloc, &mut text, day, told.as_slice(), place)?;
         place += 1;
         rest = behind;
     }
@@ -93,11 +98,12 @@ fn write_unit_band(
     alloc: Global,
     text: &mut Vec<u8>,
     lines: &[Line<UnitShown>],
-    gaps: &[Gap],
+    gaps: &Gaps,
     marks: &[Mark],
     place: u64,
 ) -> Result<(), AllocError>
-    requires { IsOneDay lines.now }
+    requires day { IsOneDay lines.now }
+    requires order { IsNonDecreasingBy mark_day marks.now }
     ensures { OnOk result ((date : List ℕ) × IsDateText (day_of (minutes_on lines.now)) date
         × (text.new.items ≡ text.old.items ++ unit_band gaps.now marks.now place date (minutes_on lines.now))) }
 {
@@ -113,7 +119,7 @@ fn write_unit_band(
     let codriver = unit_bars(alloc, lines, gaps, Slot::CoDriver)?;
     text.extend_from_slice(b"<g transform=\"translate(0 30)\">\n")?;
     write_lane(text, date.as_slice(), b"codriver", codriver.as_slice())?;
-    write_marks(text, date.as_slice(), day, marks)?;
+    write_marks(text, date.as_slice(), day, marks_on(marks, day))?;
     text.extend_from_slice(b"<use xlink:href=\"#axis\"/></g></g>\n")?;
     Ok(())
 }
@@ -126,7 +132,8 @@ fn write_card_band(
     marks: &[Mark],
     place: u64,
 ) -> Result<(), AllocError>
-    requires { IsOneDay lines.now }
+    requires day { IsOneDay lines.now }
+    requires order { IsNonDecreasingBy mark_day marks.now }
     ensures { OnOk result ((date : List ℕ) × IsDateText (day_of (minutes_on lines.now)) date
         × (text.new.items ≡ text.old.items ++ card_band marks.now place date (minutes_on lines.now))) }
 {
@@ -139,7 +146,7 @@ fn write_card_band(
     )?;
     let bars = card_bars(alloc, lines)?;
     write_lane(text, date.as_slice(), b"holder", bars.as_slice())?;
-    write_marks(text, date.as_slice(), day, marks)?;
+    write_marks(text, date.as_slice(), day, marks_on(marks, day))?;
     text.extend_from_slice(b"<use xlink:href=\"#axis\"/></g>\n")?;
     Ok(())
 }

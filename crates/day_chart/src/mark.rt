@@ -1,12 +1,13 @@
 //! A mark of the picture: a place that was entered, an event, a fault or an entry by hand.
-ghost use Rattle.std.specs.Prelude.{◌≡◌, ◌++◌, ◌<◌, OnOk};
+ghost use Rattle.std.specs.Prelude.{◌≡◌, ◌++◌, IfOk, OnOk};
+ghost use Rattle.std.specs.List.Sorted.{IsNonDecreasingBy};
 ghost use Rattle.day_chart.specs.Marks.{sign_name, mark_words, code_text, mark_title, mark_text};
-ghost use Rattle.day_chart.specs.Marks.{day_mark_text, marks_text};
+ghost use Rattle.day_chart.specs.Marks.{day_mark_text, marks_text, mark_day, marks_of_day, AreSameMarks};
 
 use crate::bar::write_half;
 use crate::frame::{DAY_BEGIN, write_number};
 use activity_codec::{DAY_MINUTES, DAY_SECONDS, MINUTE_SECONDS};
-use std::alloc::AllocError;
+use std::alloc::{AllocError, Global};
 use text_fields::byte_digits;
 use view_model::{Mark, Sign};
 use view_text::write_clock;
@@ -103,4 +104,30 @@ pub(crate) fn write_marks(
         write_day_mark(text, date, day, *mark)?;
     }
     Ok(())
+}
+
+/// Marks by their days, those of a day in their order.
+///
+/// # Errors
+///
+/// `AllocError` where memory runs out.
+pub(crate) fn by_day(alloc: Global, marks: &[Mark]) -> Result<Vec<Mark>, AllocError>
+    ensures order { IfOk result (λ ordered. IsNonDecreasingBy mark_day ordered.items) }
+    ensures same { IfOk result (λ ordered. AreSameMarks ordered.items marks.now) }
+{
+    let mut ordered = Vec::from_slice(alloc, marks)?;
+    ordered.sort_by_key(|mark| mark.second / DAY_SECONDS)?;
+    Ok(ordered)
+}
+
+/// Those of a day, among marks by their days.
+pub(crate) fn marks_on(marks: &[Mark], day: u32) -> &[Mark]
+    requires { IsNonDecreasingBy mark_day marks.now }
+    ensures { result.now ≡ marks_of_day day marks.now }
+{
+    let from = marks.partition_point(|mark| mark.second / DAY_SECONDS < day);
+    let (_earlier, rest) = marks.split_at(from);
+    let count = rest.partition_point(|mark| mark.second / DAY_SECONDS <= day);
+    let (of_day, _later) = rest.split_at(count);
+    of_day
 }

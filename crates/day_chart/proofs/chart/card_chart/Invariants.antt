@@ -12,7 +12,7 @@ abbrev pub invariant-days : goal.invariant-days
 invariant-days l = record {
   lines : AreDayLines l.rest;
   few : l.place + length l.rest ≤ length l.fn.lines;
-  drawn : IsDrawn (card_band l.marks) (frame_head (80 + 62 * length (days_of (minutes_on l.fn.lines))) l.fn.totals) l.fn.lines l.place l.rest l.text.items;
+  drawn : IsDrawn (card_band l.fn.marks) (frame_head (80 + 62 * length (days_of (minutes_on l.fn.lines))) l.fn.totals) l.fn.lines l.place l.rest l.text.items;
 }
 
 abbrev pub decreases-days : goal.decreases-days

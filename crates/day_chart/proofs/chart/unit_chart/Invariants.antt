@@ -12,7 +12,7 @@ abbrev pub invariant-days : goal.invariant-days
 invariant-days l = record {
   lines : AreDayLines l.rest;
   few : l.place + length l.rest ≤ length l.fn.lines;
-  drawn : IsDrawn (unit_band l.gaps l.marks) (frame_head (80 + 92 * length (days_of (minutes_on l.fn.lines))) l.fn.totals) l.fn.lines l.place l.rest l.text.items;
+  drawn : IsDrawn (unit_band l.fn.gaps l.fn.marks) (frame_head (80 + 92 * length (days_of (minutes_on l.fn.lines))) l.fn.totals) l.fn.lines l.place l.rest l.text.items;
 }
 
 abbrev pub decreases-days : goal.decreases-days

@@ -7,12 +7,14 @@ use Rattle.slot_bars.specs.declared.seen.Seen.{Seen}
 use Rattle.slot_bars.specs.Seeing.{card_seen}
 use Rattle.day_totals.proofs.Counting.{bars_few}
 use Rattle.day_chart.specs.Chart.{band_head, lane_text}
+use Rattle.view_model.specs.declared.marks.Mark.{Mark}
 use Rattle.day_chart.specs.Marks.{marks_text}
+use Rattle.day_chart.proofs.Marked.{of_day_alone}
 use Rattle.day_chart.proofs.Joining.{four_pieces}
 use Rattle.day_chart.proofs.chart.write_card_band.Goals as goal
 
 pub write_lane-requires : goal.write_lane-requires
-write_lane-requires c = rw c.as_slice-3.ensures.value (bars_few card_seen (minutes_on c.args.lines.now) c.in_ok-bars.bars.items c.in_ok-bars.ensures c.requires.few)
+write_lane-requires c = rw c.as_slice-3.ensures.value (bars_few card_seen (minutes_on c.args.lines.now) c.in_ok-bars.bars.items c.in_ok-bars.ensures c.requires.day.few)
 
 pub returns : goal.returns
 returns c =
@@ -25,7 +27,9 @@ returns c =
     let holder : List ℕ = lane_text date (codes "holder") minutes in
     let marks : List ℕ = marks_text date c.day_number-day.result c.args.marks.now in
     let marked : c.write_marks.new.text.items ≡ c.write_lane.new.text.items ++ marks =
-    subst (λ (d : List ℕ). c.write_marks.new.text.items ≡ c.write_lane.new.text.items ++ marks_text d c.day_number-day.result c.args.marks.now) c.as_slice-4.ensures.value c.in_ok-write_marks.ensures in
+    subst (λ (d : List ℕ). c.write_marks.new.text.items ≡ c.write_lane.new.text.items ++ marks_text d c.day_number-day.result c.marks_on.result.now) c.as_slice-4.ensures.value c.in_ok-write_marks.ensures
+    ∙ ap (λ (l : List ℕ). c.write_lane.new.text.items ++ l)
+    (ap (λ (l : List Mark). marks_text date c.day_number-day.result l) c.marks_on.ensures ∙ of_day_alone date c.day_number-day.result c.args.marks.now) in
     let end : List ℕ = codes "<use xlink:href=\"#axis\"/></g>\n" in (
       c.day_text-date.result.items,
       subst (λ (day : ℕ). IsDateText day c.day_text-date.result.items) c.day_number-day.ensures.day c.day_text-date.ensures,
