@@ -1,5 +1,5 @@
 -- What helps by the first word, of so many words.
-use Rattle.std.proofs.Common.{◌≡◌, ℕ, true, List, [], ◌∷◌, length, nat_eq, refl}
+use Rattle.std.proofs.Common.{◌≡◌, ℕ, true, List, [], ◌∷◌, length, nat_eq, refl, arith, eqb-true}
 use Rattle.std.specs.Prelude.{Some, slice_get}
 use Rattle.tacho.specs.declared.hints.Hint.TheVariants.{Help}
 use Rattle.tacho.specs.Hints.{hint_of, command_hint}
@@ -18,4 +18,4 @@ first-hint (p ∷ q ∷ r ∷ s ∷ t ∷ u ∷ v ∷ words) a at two three six 
 pub no-word : (words : List (List ℕ)) → nat_eq (length words) 0 ≡ true → hint_of words ≡ Help
 unfolding hint_of
 no-word [] none = refl
-no-word (p ∷ words) none = absurd (cc)
+no-word (p ∷ words) none = absurd (omega (arith, eqb-true (length (p ∷ words)) 0 none))
