@@ -231,7 +231,7 @@ fn four_bytes_up_to_the_end(rt: HostRuntime) -> Result<(), Fail> {
 /// of six bytes that do not stand there.
 fn disk_with_record(alloc: Global) -> Result<MemDisk, Fail> {
     let mut bytes = before(alloc)?;
-    while bytes.len() < 2048 {
+    for _ in SIZE..2048 {
         bytes.push(7)?;
     }
     bytes.extend_from_slice(&[0, 0, 0, 1])?;
