@@ -1,12 +1,12 @@
 -- Writes behind writes.
 use Rattle.std.proofs.Common.{◌≡◌, ◌∙◌, ℕ, ◌+◌, ◌-◌, ◌≤◌, List, [], ◌∷◌, ◌++◌, length, take, drop, refl, sym, ap, subst, append_assoc, append-nil, arith}
-use Rattle.std.specs.Prelude.{Result, Ok, Err, OnOk, OnErr}
+use Rattle.std.specs.Prelude.{Result, Ok, Err, OnErr}
 use Rattle.std.proofs.lemmas.List.{take-take, take-append-drop, drop-take, take_all}
 use Rattle.std.specs.declared.option.Option.{Option}
 use Rattle.std.specs.declared.option.Option.TheVariants.{None, Some}
 use Rattle.std.specs.Io.KnownBytes.{Appends}
 use Rattle.std.proofs.KnownBytes.{Appends-trans}
-use Rattle.live_telling.specs.Telling.{Clocks, Telling, TellsMore, HaveComeTo, NotBefore, IsTold, IsBegun, TellsLines, taken_by}
+use Rattle.live_telling.specs.Telling.{Clocks, Telling, TellsMore, HaveComeTo, NotBefore, IsTold, IsBegun, taken_by}
 
 -- ---- parts of a line, one after another
 
@@ -88,9 +88,3 @@ front-begun (Ok x) line n clocks a b c since have f next = tt
 front-begun (Err e) line n clocks a b c since have f next =
     let g = front-failed line n clocks a b c f next in
     (g.tells, g.more, record { behind = drop n line; text = ap (λ (l : List ℕ). l ++ drop n line) g.took ∙ take-append-drop n line; late = g.late since have })
-
--- one line
-pub one-line : {T E : Type 0} (result : Result T E) (text : List ℕ) (since : Clocks) (a b : Option (List Telling)) → OnOk result ((tells : List Telling) × TellsMore a b tells × IsTold (record { text = text; since = since }) tells)
-    → OnOk result (TellsLines (record { text = text; since = since } ∷ []) a b)
-one-line (Err e) text since a b told = tt
-one-line (Ok x) text since a b told = record { tells = told.0; more = told.1; told = (told.0, [], sym (append-nil told.0), told.2, refl) }

@@ -28,5 +28,6 @@ pub fn keep_and_tell<K: Teller<U, C>, U: Medium, C: Chip>(
         (K.told sink.new)) }
 {
     unit.write_at(0, bytes)?;
-    put_line(sink, line, unit, card_a, card_b)
+    put_line(sink, line, unit, card_a, card_b)?;
+    Ok(())
 }

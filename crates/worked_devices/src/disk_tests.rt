@@ -135,7 +135,6 @@ fn cut_each_way(rt: &(impl Abort + AllocGlobal), write: Write, number: u64) -> R
             let left = left_of(rt.alloc(), disk, write)?;
             assert!(rt; !left.is_done);
             is_old_or_new(rt, &left, old.as_slice(), new.as_slice());
-            cut_next(rt, write, cut)?;
         }
     }
     Ok(())
@@ -151,7 +150,7 @@ fn cut_next(rt: &(impl Abort + AllocGlobal), write: Write, cut: Cut) -> Result<(
     let found = left_of(rt.alloc(), cut_disk(rt.alloc(), write, cut)?, NOTHING)?;
     let new = after(rt.alloc(), found.bytes.as_slice(), next)?;
     for number in 0..8 {
-        for len in [0, 1, 5, 11] {
+        for len in [0, 5] {
             let disk = cut_disk(rt.alloc(), write, cut)?.again(Some(cut_at(number, 0, len)))?;
             let left = left_of(rt.alloc(), disk, next)?;
             is_old_or_new(rt, &left, found.bytes.as_slice(), new.as_slice());
@@ -176,6 +175,7 @@ fn cut_write(rt: &(impl Abort + AllocGlobal), write: Write) -> Result<(), Fail> 
     assert!(rt; whole.bytes.as_slice() == new.as_slice());
     for number in 0..5 {
         cut_each_way(rt, write, number)?;
+        cut_next(rt, write, cut_at(number, 0, 1))?;
     }
     Ok(())
 }
@@ -231,7 +231,7 @@ fn four_bytes_up_to_the_end(rt: HostRuntime) -> Result<(), Fail> {
 /// of six bytes that do not stand there.
 fn disk_with_record(alloc: Global) -> Result<MemDisk, Fail> {
     let mut bytes = before(alloc)?;
-    while bytes.len() < 2048 {
+    for _ in SIZE..2048 {
         bytes.push(7)?;
     }
     bytes.extend_from_slice(&[0, 0, 0, 1])?;

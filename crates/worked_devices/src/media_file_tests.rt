@@ -360,7 +360,7 @@ fn a_write_that_cannot_be_synchronised(rt: HostRuntime) {
     does_not_write(&rt, &mut filter, b"0x33");
     does_not_revive(&rt, &mut filter);
     does_not_read(&rt, &mut filter, 0);
-    assert_eq!(rt; filter.clock(), 1);
+    assert_eq!(rt; filter.clock(), 0);
 }
 
 /// Four bytes are written at a place of a memory of 600 bytes in a file.

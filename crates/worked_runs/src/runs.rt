@@ -6,5 +6,4 @@ mod matching;
 mod ran;
 mod rows;
 mod running;
-mod sectors;
 mod table;
