@@ -1,0 +1,14 @@
+pub mod Scenario
+pub mod Images
+pub mod WorkedCourse
+pub mod WorkedNotes
+pub mod WorkedMoves
+pub mod WorkedCards
+pub mod WorkedStays
+pub mod WorkedRecordings
+pub mod WorkedDays
+pub mod WorkedOwed
+pub mod WorkedTexts
+pub mod WorkedDevices
+pub mod WorkedShown
+pub mod WorkedStatements
